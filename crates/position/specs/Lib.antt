@@ -1,0 +1,5 @@
+pub mod Positions
+pub mod Order
+pub mod Rule
+pub mod Place
+pub mod Examples
