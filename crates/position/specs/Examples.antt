@@ -37,21 +37,12 @@ infix 80 _#_
 abbrev pub _#_ : ℕ → ℕ → Identifier
 x # s = identifier x s
 
--- the neighbours of P4 and P5, of P6 to P8, and the right one of P9 and P10, whose left is P4's
-abbrev pub p4 : List Identifier
-p4 = 2 # 4 ∷ []
-
-abbrev pub q4 : List Identifier
-q4 = 10 # 5 ∷ []
-
+-- the neighbours of P6, P7 and P8
 abbrev pub p6 : List Identifier
 p6 = 5 # 1 ∷ 1 # 6 ∷ 10 # 2 ∷ []
 
 abbrev pub q6 : List Identifier
 q6 = 5 # 1 ∷ 2 # 1 ∷ 15 # 2 ∷ []
-
-abbrev pub q9 : List Identifier
-q9 = 2 # 4 ∷ 1 # 3 ∷ []
 
 -- P1 to P11 in their order; P4 has a run and a draw
 abbrev pub cases : List Case
@@ -59,13 +50,13 @@ cases =
     against (2 # 4 ∷ 9 # 9 ∷ []) (2 # 5 ∷ []) Below ∷
     against (2 # 4 ∷ []) (2 # 4 ∷ 1 # 1 ∷ []) Below ∷
     run begin end 3 [] 1 65534 ∷
-    run p4 q4 4 [] 3 10 ∷
-    drawn p4 q4 4 9 (4 # 4 ∷ []) ∷
-    run p4 q4 5 [] 2 9 ∷
+    run (2 # 4 ∷ []) (10 # 5 ∷ []) 4 [] 3 10 ∷
+    drawn (2 # 4 ∷ []) (10 # 5 ∷ []) 4 9 (4 # 4 ∷ []) ∷
+    run (2 # 4 ∷ []) (10 # 5 ∷ []) 5 [] 2 9 ∷
     run p6 q6 7 (5 # 1 ∷ []) 1 1 ∷
     run p6 q6 1 (5 # 1 ∷ []) 2 2 ∷
     run p6 q6 6 (5 # 1 ∷ 1 # 6 ∷ []) 10 65535 ∷
-    run p4 q9 2 (2 # 4 ∷ []) 1 1 ∷
-    run p4 q9 5 (2 # 4 ∷ pad ∷ []) 1 65535 ∷
+    run (2 # 4 ∷ []) (2 # 4 ∷ 1 # 3 ∷ []) 2 (2 # 4 ∷ []) 1 1 ∷
+    run (2 # 4 ∷ []) (2 # 4 ∷ 1 # 3 ∷ []) 5 (2 # 4 ∷ pad ∷ []) 1 65535 ∷
     nowhere (5 # 3 ∷ replicate 7 (65535 # 9)) (5 # 4 ∷ 9 # 3 ∷ []) 2 ∷
     []

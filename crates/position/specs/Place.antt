@@ -4,7 +4,7 @@
 use Prim.Native.Nat.{ℕ, zero, suc, _+_, _-_, _%_, _<_, min, max}
 use mathlib.Core.Path.{_≡_}
 use mathlib.Core.Bool.{true, false, cond}
-use mathlib.Core.Option.{Option, none, some}
+use mathlib.Core.Option.{Option, none, some, Option·map}
 use mathlib.Core.List.{List, []}
 use lib.Dec.{ltb}
 use lib.ListN.{length, take, getD}
@@ -73,13 +73,9 @@ roomFrom p q s (suc left) k = cond (ltb 0 (roomAt p q s k .c)) (some (roomAt p q
 unfoldable pub roomOf : List Identifier → List Identifier → ℕ → Option Room
 roomOf p q s = roomFrom p q s 8 0
 
-abbrev pub placeIn : ℕ → ℕ → Option Room → Option (List Identifier)
-placeIn s draw none = none
-placeIn s draw (some room) = some (followedBy (room .front) (xOf (room .lo) (room .c) draw) s)
-
 -- the place of a new line of site s between p and q, or none
 unfoldable pub placeOf : List Identifier → List Identifier → ℕ → ℕ → Option (List Identifier)
-placeOf p q s draw = placeIn s draw (roomOf p q s)
+placeOf p q s draw = Option·map (λ room. followedBy (room .front) (xOf (room .lo) (room .c) draw) s) (roomOf p q s)
 
 -- the answer of `place`: where there is none, the place is no identifier at all
 abbrev pub placed : Option (List Identifier) → Placed
