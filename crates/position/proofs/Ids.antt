@@ -64,10 +64,6 @@ pub is-front : (p : Position) (l : List Identifier) → p ≡ positionOf l → l
 is-front p l e h =
     subst Front (sym e) (record { short = h; pads = ap positionOf (sym (position-ids l)) })
 
--- the two ends, and whatever else has one identifier
-pub of-one : (p r : Position) (x s : ℕ) → p ≡ positionOf [] → r ≡ positionOf (followedBy (idsOf p) x s) → r ≡ positionOf (identifier x s ∷ [])
-of-one p r x s e h = h ∙ ap (λ (q : Position). positionOf (followedBy (idsOf q) x s)) e
-
 -- what a cut leaves is the front of all that there are
 front-of-all : {A : Type 0} (n u : ℕ) (l : List A) → take (length (take n (take u l))) l ≡ take n (take u l)
 front-of-all zero u l = refl

@@ -3,7 +3,6 @@
 -- Assumes nothing.
 use Prim.Native.Nat.{ℕ, zero, suc, _+_, _-_, _%_, _≤_, _<_}
 use native.Mathlib.Omega.{arith}
-use native.Mathlib.Nat.{mod-lt}
 use native.Mathlib.Decide.{decLt}
 use mathlib.Core.Path.{_≡_, refl, sym, ap, _∙_, subst}
 use mathlib.Core.Logic.{_⊎_, inl, inr, ⊎-elim, by-cases}
@@ -20,9 +19,8 @@ use Rattle.position.specs.Place.{placeOf}
 use Rattle.position.specs.Rule.{padded, followedBy}
 use Rattle.position.proofs.Ids.{padded-length}
 use Rattle.position.proofs.Ordered.{never, below-less, less-below, irreflexive, transitive}
-use Rattle.position.proofs.Made.{made, made-between}
+use Rattle.position.proofs.Made.{made, picked, made-between}
 
--- Below the end stands exactly what begins with an integer of at most 65,534.
 below-either : (a r : Order) → thenBy a r ≡ Below → (a ≡ Below) ⊎ ((a ≡ Same) × (r ≡ Below))
 below-either Below r e = inl e
 below-either Same r e = inr (refl, e)
@@ -33,6 +31,7 @@ unfolding orderOf
 not-under-none [] e = never (cc)
 not-under-none (i ∷ l) e = never (cc)
 
+-- Below the end stands what begins with an integer of at most 65,534, and nothing else.
 under-end : (l : List Identifier) → l ≺ end → getD l 0 pad .integer ≤ 65534
 unfolding orderOf identifierOrder
 under-end [] e = omega arith
@@ -133,7 +132,7 @@ module _ (p : List Identifier) (n x s : ℕ) where
         first = under-end (followedBy (padded p n) x s) under;
       }
 
--- What a made place is, whoever its neighbours are.
+-- What a place made between lines or ends is.
 pub record MadeLine (place : List Identifier) (s : ℕ) : Type 0 where
   pub line : LinePosition place
   pub author : authorOf place ≡ s
@@ -149,7 +148,7 @@ made-line p q s draw place left right site site-most e =
     let not-end : p ≡ end → ⊥ = λ is.
     irreflexive end (transitive end place end (subst (λ (l : List Identifier). l ≺ place) is (between .0)) under) in
     let x = r .lo + draw % r .c in
-    let within = r .run x .1 (omega arith, omega (arith, mod-lt draw (r .some))) in
+    let within = picked p q s r in
     let n = r .d - 1 in
     subst (λ (l : List Identifier). MadeLine l s) (sym (r .place-is))
     (record {

@@ -70,7 +70,7 @@ module _ (p q : List Identifier) (s : ℕ) where
           let room : 0 < roomAt p q s k .c = omega arith in
           rw (room-here p q s left k room) (hit k (omega arith) (omega arith) room (λ j from to. absurd (omega arith)))
 
-  -- a front without room has no candidate, and one with room has its first
+  -- a front without room has no candidate
   no-candidate : (d x : ℕ) → roomAt p q s (d - 1) .c ≡ 0 → Candidate p q s d x → ⊥
   no-candidate d x e h = let within = candidates d x .0 h in omega arith
 
@@ -166,8 +166,11 @@ module _ (p q : List Identifier) (s : ℕ) where
       by none (no-place h) = absurd (h (one .d) (one .from-1) (one .up-to-8) (one .lo) (first-of one))
       by (some l) (a-place m r) = ap some (same-place r one)
 
+  -- the x that the draw picks is one of the run
+  pub picked : {draw : ℕ} {l : List Identifier} (r : Placement p q s draw l) → Candidate p q s (r .d) (r .lo + draw % r .c)
+  picked {draw} r = r .run (r .lo + draw % r .c) .1 (omega arith, omega (arith, mod-lt draw (r .some)))
+
   pub made-between : (draw : ℕ) (place : List Identifier) → placeOf p q s draw ≡ some place → (p ≺ place) × (place ≺ q)
   made-between draw place e =
       let r = made draw place e in
-      let within = r .run (r .lo + draw % r .c) .1 (omega arith, omega (arith, mod-lt draw (r .some))) in
-      rw (r .place-is) (within .over, within .under)
+      rw (r .place-is) (picked r .over, picked r .under)

@@ -15,6 +15,7 @@ thenBy Below rest = Below
 thenBy Same rest = rest
 thenBy Above rest = Above
 
+-- numbers, by the library's test
 unfoldable pub numberOrder : ℕ → ℕ → Order
 numberOrder a b = cond (ltb a b) Below (cond (ltb b a) Above Same)
 

@@ -38,8 +38,9 @@ nextInteger p n = getD p n pad .integer
 
 -- Behind one front candidates rise with x, so one number says which of them lie over a neighbour:
 -- the first x whose candidate does. Where the front is the neighbour's own first part, that is the
--- neighbour's next integer or the one after it; else the front alone decides. A candidate that is
--- the neighbour itself counts as over it with `own` 0, and as not yet over it with `own` 1.
+-- neighbour's next integer or the one after it; else the front alone decides, for no x up to 65,535
+-- or for every x. A candidate that is the neighbour itself counts as over it with `own` 0, and as
+-- not yet over it with `own` 1.
 unfoldable pub firstOver : ℕ → List Identifier → List Identifier → ℕ → ℕ
 firstOver own neighbour front s =
     let i = nextInteger neighbour (length front) in
@@ -58,7 +59,7 @@ pub record Room : Type 0 where
   pub lo : ℕ
   pub c : ℕ
 
--- x runs from 1 or the first over p, up to 65,535 or the last that is not yet q or over it
+-- from the first x that is at least 1 and over p, to the last that is at most 65,535 and under q
 unfoldable pub roomAt : List Identifier → List Identifier → ℕ → ℕ → Room
 roomAt p q s k =
     let front = frontAt p q k in

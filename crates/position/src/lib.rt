@@ -1,17 +1,17 @@
 // Positions of lines (01, 'Positions'; INRIA RR-6713, definitions 1 to 3): what an identifier and a
 // position are. The order of positions is `order`, the place of a new line is `place`.
 //
-// Rests on nothing. Every function takes any value whatever of these types, ends, and gives the one
-// answer that its definition in specs/ gives; none refuses or traps. A position's value is read by
-// its `used` first identifiers, at most 8; every value that this crate makes has pads behind them,
+// Rests on nothing. Every public function takes any value whatever of these types, ends, and gives the
+// one answer that its definition in specs/ gives; none refuses or traps. A position's value is read by
+// its `used` first identifiers, at most 8; every value that this crate hands out has pads behind them,
 // so that each list of identifiers has one value (specs/Positions.antt).
 pub mod order;
 pub mod place;
 
 ghost use mathlib.Core.Path.{_≡_};
-ghost use mathlib.Core.List.{[]};
+ghost use mathlib.Core.List.{[], _∷_};
 ghost use lib.ListN.{length, take};
-ghost use Rattle.position.specs.Positions.{begin, end, idsOf, positionOf};
+ghost use Rattle.position.specs.Positions.{identifier, begin, end, idsOf, positionOf};
 ghost use Rattle.position.specs.Rule.{followedBy};
 ghost use Rattle.position.specs.Place.{Front};
 
@@ -33,14 +33,21 @@ impl Position {
     pub fn begin() -> Position
         ensures { λ r. ⌜ r ≡ positionOf begin ⌝ }
     {
-        Position::empty().followed_by(0, 0)
+        Position::an_end(0)
     }
 
     // The end that stands behind every line, (65535,0).
     pub fn end() -> Position
         ensures { λ r. ⌜ r ≡ positionOf end ⌝ }
     {
-        Position::empty().followed_by(65535, 0)
+        Position::an_end(65535)
+    }
+
+    // An end is one identifier of site 0, which no line's position ends in.
+    fn an_end(integer: u16) -> Position
+        ensures { λ r. ⌜ r ≡ positionOf (identifier integer 0 ∷ []) ⌝ }
+    {
+        Position::empty().followed_by(integer, 0)
     }
 
     // No identifier at all: what positions are built from, and what stands where there is no place.

@@ -112,6 +112,7 @@ fn next_integer(p: Position, n: usize) -> u16
     }
 }
 
+// (0, s) is no identifier, so x is never below 1.
 fn at_least_1(x: u32) -> u32
     ensures { λ r. ⌜ r ≡ max 1 x ⌝ }
 {
