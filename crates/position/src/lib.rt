@@ -65,7 +65,7 @@ impl Position {
     }
 
     // How many identifiers this value has: `used`, but never more than there are.
-    fn length(self) -> usize
+    pub fn length(self) -> usize
         ensures { λ r. ⌜ r ≡ length (idsOf self) ⌝ }
     {
         if self.used < Position::LIMIT {

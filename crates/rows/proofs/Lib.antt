@@ -1,0 +1,5 @@
+pub mod Bytes
+pub mod Digits
+pub mod Moved
+pub mod Rising
+pub mod Slots

@@ -1,0 +1,6 @@
+pub mod Encoded
+pub mod Finding
+pub mod Held
+pub mod Kept
+pub mod RecordBack
+pub mod Tables

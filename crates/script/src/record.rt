@@ -1,0 +1,78 @@
+// The record's 67 bytes across the C boundary (01, 'The record and the table'): site (1), rows (2),
+// sixteen counts (4 each).
+use crate::RECORD;
+use crate::Replica;
+use crate::SITES;
+use rows::numbers::number_2;
+use rows::numbers::number_4;
+use rows::numbers::put_1;
+use rows::numbers::put_2;
+use rows::numbers::put_4;
+ghost use mathlib.Core.Path.{_≡_};
+ghost use lib.ListN.{length, drop};
+ghost use Rattle.rows.specs.Rows.{rowsOf, flat, written};
+ghost use Rattle.rows.specs.Numbers.{bytesOf};
+ghost use Rattle.script.specs.Records.{recordSize, countFirst, nobody, recordRead, recordWritten};
+
+// Reads the record of 67 bytes. Bytes of any other length give the record of no host, site 0, which
+// is never sound.
+pub fn read(s: &[u8]) -> Replica
+    ensures { λ r. ⌜ r ≡ recordRead (now (s .entry)) ⌝ }
+{
+    if s.len() == RECORD {
+        let counts = read_counts(s);
+        Replica {
+            site: s[0],
+            rows: number_2(s, 1),
+            counts,
+        }
+    } else {
+        nobody()
+    }
+}
+
+// Writes the record over 67 bytes. A slice of any other length stays as it was.
+pub fn write(r: Replica, s: &mut [u8])
+    ensures { λ _. ⌜ now (s .exit) ≡ recordWritten r (now (s .entry)) ⌝ }
+{
+    if s.len() == RECORD {
+        put_1(s, 0, r.site);
+        put_2(s, 1, r.rows);
+        let counts = r.counts;
+        write_counts(counts, s);
+    }
+}
+
+fn nobody() -> Replica
+    ensures { λ r. ⌜ r ≡ nobody ⌝ }
+{
+    Replica {
+        site: 0,
+        rows: 0,
+        counts: [0; SITES],
+    }
+}
+
+fn read_counts(s: &[u8]) -> [u32; SITES]
+    requires { ⌜ length (now s) ≡ recordSize ⌝ }
+    ensures { λ r. ⌜ r ≡ rowsOf countFirst 4 16 (drop 3 (now (s .entry))) ⌝ }
+{
+    let mut counts = [0; SITES];
+    let mut i = 0;
+    while i < SITES {
+        counts[i] = number_4(s, 3 + 4 * i);
+        i += 1;
+    }
+    counts
+}
+
+fn write_counts(counts: [u32; SITES], s: &mut [u8])
+    requires { ⌜ length (now s) ≡ recordSize ⌝ }
+    ensures { λ _. ⌜ now (s .exit) ≡ written 3 (flat (bytesOf 4) counts) (now (s .entry)) ⌝ }
+{
+    let mut i = 0;
+    while i < SITES {
+        put_4(s, 3 + 4 * i, counts[i]);
+        i += 1;
+    }
+}

@@ -1,0 +1,10 @@
+pub mod Answers
+pub mod Compared
+pub mod Decided
+pub mod FitRow
+pub mod Identifiers
+pub mod Masked
+pub mod OneNumber
+pub mod Rising
+pub mod Words
+pub mod Zeros

@@ -1,0 +1,111 @@
+-- Faults or-ed together: what a turn of a loop adds, and what a mask lets through.
+-- Assumes nothing.
+use Prim.Native.Nat.{ℕ, zero, suc, _+_, _-_, _%_, _≤_, _<_}
+use native.Mathlib.Omega.{arith}
+use native.Mathlib.Nat.{eq-or-lt-of-le}
+use native.Mathlib.Decide.{decLt}
+use mathlib.Core.Path.{_≡_, refl, sym, ap, subst, _∙_}
+use mathlib.Core.Bool.{Bool, true, false, cond, _&&_}
+use mathlib.Core.Logic.{_↔_, _⊎_, by-cases, ⊎-elim}
+use mathlib.Core.List.{List}
+use lib.Bits.{bitAnd, bitOr, or-add-and, and-le-l, and-le-r, and-mask, and-zero-r}
+use borrow.Author.Tests.{eqb-true, eqb-false, ltb-true, ltb-false}
+use lib.Dec.{T, eqb, ltb, eqb→eq}
+use lib.ListN.{getD, replicate, getD-replicate, List·getD-append}
+use lib.Seq.{getD-append-add}
+use Rattle.sound.specs.Steps.{Upto, behindMask, startMask}
+
+pub or-clear : (a b : ℕ) → (bitOr a b ≡ 0) ↔ ((a ≡ 0) × (b ≡ 0))
+or-clear a b = (
+  λ h. (omega (arith, or-add-and a b, and-le-l a b, and-le-r a b), omega (arith, or-add-and a b, and-le-l a b, and-le-r a b)),
+  λ h. omega (arith, or-add-and a b, h .0, h .1),
+)
+
+-- a mask of 255 lets a byte through, a mask of 0 nothing
+pub let-through : (b : ℕ) → b < 256 → bitAnd b 255 ≡ b
+let-through b small = and-mask b 8 ∙ omega arith
+
+-- before the first turn
+pub none : {P : ℕ → Type 0} → _≡_ {A = ℕ} 0 0 ↔ Upto 0 P
+none {P} = (λ _ j h. absurd (omega arith), λ _. refl)
+
+-- one more of what holds at each
+pub one-more : {P : ℕ → Type 0} → (j : ℕ) → Upto j P → P j → Upto (j + 1) P
+one-more {P} j so-far here i less =
+    ⊎-elim (λ (q : i ≡ j). subst P (sym q) here) (λ (l : i < j). so-far i l) (eq-or-lt-of-le (omega arith))
+
+-- one turn more
+pub more : {P : ℕ → Type 0} → (faults fault j : ℕ) → (faults ≡ 0) ↔ Upto j P → (fault ≡ 0) ↔ P j → (bitOr faults fault ≡ 0) ↔ Upto (j + 1) P
+more {P} faults fault j so-far here = (
+  λ h. let clear = or-clear faults fault .0 h in one-more j (so-far .0 (clear .0)) (here .0 (clear .1)),
+  λ every. or-clear faults fault .1 (so-far .1 (λ i l. every i (omega arith)), here .1 (every j (omega arith))),
+)
+
+-- after the last turn
+pub all : {P : ℕ → Type 0} → (faults j n : ℕ) → j ≡ n → (faults ≡ 0) ↔ Upto j P → (faults ≡ 0) ↔ Upto n P
+all {P} faults j n end so-far = subst (λ (k : ℕ). (faults ≡ 0) ↔ Upto k P) end so-far
+
+-- what is masked by the places behind n
+pub behind : (mask : List ℕ) → mask ≡ behindMask → (b n j : ℕ) → b < 256 → n ≤ 48 → j < 48 → (bitAnd b (getD mask (48 - n + j) 0) ≡ 0) ↔ (n ≤ j → b ≡ 0)
+behind mask is b n j small most less = by-cases (decLt j n) before from
+  where
+    place : ℕ
+    place = 48 - n + j
+
+    before : j < n → (bitAnd b (getD mask place 0) ≡ 0) ↔ (n ≤ j → b ≡ 0)
+    before l =
+        let at : getD mask place 0 ≡ 0 =
+        ap (λ (l : List ℕ). getD l place 0) is ∙ List·getD-append (replicate 48 0) (replicate 48 255) 0 place (omega arith) ∙ getD-replicate 48 place 0 0 (omega arith) in
+        (λ _ h. absurd (omega arith), λ _. ap (bitAnd b) at ∙ and-zero-r b)
+
+    from : (j < n → ⊥) → (bitAnd b (getD mask place 0) ≡ 0) ↔ (n ≤ j → b ≡ 0)
+    from no-less =
+        let more-than : n ≤ j = omega arith in
+        let place-is : 48 + (j - n) ≡ place = omega arith in
+        let at : getD mask place 0 ≡ 255 =
+        ap (λ (l : List ℕ). getD l place 0) is ∙ ap (λ (k : ℕ). getD behindMask k 0) (sym place-is) ∙ getD-append-add (replicate 48 0) (replicate 48 255) (j - n) 0
+        ∙ getD-replicate 48 (j - n) 255 0 (omega arith) in
+        let whole : bitAnd b (getD mask place 0) ≡ b = ap (bitAnd b) at ∙ let-through b small in
+        (λ h _. sym whole ∙ h, λ h. whole ∙ h more-than)
+
+-- where an identifier starts, told by the mask's byte there
+data Start (j : ℕ) : ℕ → Type 0 where
+  starts : (j % 3 ≡ 0) × (j < 24) → Start j 255
+  between : ((j % 3 ≡ 0) × (j < 24) → ⊥) → Start j 0
+
+abbrev all-below : ℕ → (ℕ → Bool) → Bool
+all-below zero f = true
+all-below (suc n) f = f n && all-below n f
+
+both-parts : (a b : Bool) → T (a && b) → T a × T b
+both-parts true b t = (tt, t)
+both-parts false b t = absurd t
+
+each-below : (n : ℕ) (f : ℕ → Bool) → T (all-below n f) → (j : ℕ) → j < n → T (f j)
+each-below zero f t j less = absurd (omega arith)
+each-below (suc n) f t j less =
+    let parts = both-parts (f n) (all-below n f) t in
+    ⊎-elim (λ (q : j ≡ n). subst (λ (k : ℕ). T (f k)) (sym q) (parts .0)) (λ (l : j < n). each-below n f (parts .1) j l)
+    (eq-or-lt-of-le (omega arith))
+
+starting : ℕ → Bool
+starting j = eqb (j % 3) 0 && ltb j 24
+
+right : ℕ → Bool
+right j = eqb (getD startMask j 0) (cond (starting j) 255 0)
+
+start-at : (j : ℕ) → j < 32 → Start j (getD startMask j 0)
+unfolding starting right
+start-at j less = subst (Start j) (sym (eqb→eq _ _ (each-below 32 right tt j less))) (by (eqb (j % 3) 0) (ltb j 24) refl refl)
+  where
+    by : (a b : Bool) → eqb (j % 3) 0 ≡ a → ltb j 24 ≡ b → Start j (cond (a && b) 255 0)
+    by true true p q = starts (eqb-true (j % 3) 0 p, ltb-true j 24 q)
+    by true false p q = between (λ h. absurd (omega (arith, h .1, ltb-false j 24 q)))
+    by false b p q = between (λ h. eqb-false (j % 3) 0 p (h .0))
+
+pub at-starts : (mask : List ℕ) → mask ≡ startMask → (b j : ℕ) → b < 256 → j < 32 → (bitAnd b (getD mask j 0) ≡ 0) ↔ ((j % 3 ≡ 0) × (j < 24) → b ≡ 0)
+at-starts mask is b j small less = by (getD mask j 0) (subst (λ (l : List ℕ). Start j (getD l j 0)) (sym is) (start-at j less))
+  where
+    by : (m : ℕ) → Start j m → (bitAnd b m ≡ 0) ↔ ((j % 3 ≡ 0) × (j < 24) → b ≡ 0)
+    by m (starts here) = (λ h _. sym (let-through b small) ∙ h, λ h. let-through b small ∙ h here)
+    by m (between nowhere) = (λ _ h. absurd (nowhere h), λ _. and-zero-r b)
