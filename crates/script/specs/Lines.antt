@@ -1,6 +1,6 @@
 -- The lines of the script and the bytes of the table (01, 'The record and the table').
 -- Assumes nothing.
-use Prim.Native.Nat.{ℕ, _+_, _*_}
+use Prim.Native.Nat.{ℕ, _*_}
 use mathlib.Core.List.{List, _++_}
 use lib.ListN.{length, take, drop, getD}
 use Rattle.position.specs.declared.Identifier.{Identifier}

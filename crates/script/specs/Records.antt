@@ -9,7 +9,7 @@ use Rattle.rows.specs.Numbers.{numAt, bytesOf}
 use Rattle.rows.specs.Rows.{flat, rowsOf}
 use Rattle.script.specs.declared.Replica.{Replica}
 
--- "for each of the 16 sites a count": those of site 1 stand first
+-- "for each of the 16 sites a count": that of site 1 stands first
 abbrev pub countOf : List ℕ → ℕ → ℕ
 countOf counts site = getD counts (site - 1) 0
 

@@ -6,7 +6,7 @@ use native.Mathlib.Nat.{eq-or-lt-of-le}
 use native.Mathlib.Decide.{decLt}
 use mathlib.Core.Path.{_≡_, refl, sym, ap, subst, _∙_}
 use mathlib.Core.Bool.{Bool, true, false, cond, _&&_}
-use mathlib.Core.Logic.{_↔_, _⊎_, by-cases, ⊎-elim}
+use mathlib.Core.Logic.{_↔_, by-cases, ⊎-elim}
 use mathlib.Core.List.{List}
 use lib.Bits.{bitAnd, bitOr, or-add-and, and-le-l, and-le-r, and-mask, and-zero-r}
 use borrow.Author.Tests.{eqb-true, eqb-false, ltb-true, ltb-false}

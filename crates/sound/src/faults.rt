@@ -10,7 +10,7 @@ ghost use Rattle.position.specs.Positions.{Proper, identifier};
 ghost use Rattle.sound.specs.Steps.{Upto, SlotFits, TextFits, behindMask, startMask};
 
 // 48 zeros and 48 of 255: read from place 48 - n on, it masks out what stands before place n.
-pub fn behind_mask() -> [u8; 96]
+pub(crate) fn behind_mask() -> [u8; 96]
     ensures { λ r. ⌜ r ≡ behindMask ⌝ }
 {
     let mut mask = [255u8; 96];
@@ -19,7 +19,7 @@ pub fn behind_mask() -> [u8; 96]
 }
 
 // 255 at each byte where one of the eight identifiers starts. (32 and not 24: two whole vectors.)
-pub fn start_mask() -> [u8; 32]
+pub(crate) fn start_mask() -> [u8; 32]
     ensures { λ r. ⌜ r ≡ startMask ⌝ }
 {
     let mut mask = [0u8; 32];
@@ -42,7 +42,7 @@ fn slot_fault(high: u8, low: u8, site: u8) -> u8
 }
 
 // The eight identifiers of a row: each is proper, and those that are unused have no site.
-pub fn slot_faults(row: &[u8], used: usize, behind: &[u8; 96], starts: &[u8; 32]) -> u8
+pub(crate) fn slot_faults(row: &[u8], used: usize, behind: &[u8; 96], starts: &[u8; 32]) -> u8
     requires { ⌜ (78 ≤ length (now row)) × ((used ≤ 8) × ((now behind ≡ behindMask) × (now starts ≡ startMask))) ⌝ }
     ensures { λ r. ⌜ (r ≡ 0) ↔ Upto 32 (SlotFits used (now (row .entry))) ⌝ }
 {
@@ -58,7 +58,7 @@ pub fn slot_faults(row: &[u8], used: usize, behind: &[u8; 96], starts: &[u8; 32]
 }
 
 // The text of a row: what is unused is zero.
-pub fn text_faults(row: &[u8], used: usize, behind: &[u8; 96]) -> u8
+pub(crate) fn text_faults(row: &[u8], used: usize, behind: &[u8; 96]) -> u8
     requires { ⌜ (78 ≤ length (now row)) × ((used ≤ 48) × (now behind ≡ behindMask)) ⌝ }
     ensures { λ r. ⌜ (r ≡ 0) ↔ Upto 48 (TextFits used (now (row .entry))) ⌝ }
 {

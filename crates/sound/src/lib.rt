@@ -5,8 +5,8 @@
 // Rests on `script`, whose specs/Sound.antt is what `sound` decides, on `position` for what an
 // identifier may be, and on `rows` for numbers. Two facts make it fast, and proofs/ has them as laws.
 // Unused identifiers are zero and the last one in use is not the pad, so positions stand in the order
-// of their 24 bytes: three words are compared, and carried on to the next row. And of each row the
-// faults of all bytes are or-ed together and tested once.
+// of their 24 bytes: three words are compared, and carried on to the next row. And the faults
+// of a row's identifiers, and of its text, are or-ed together and tested once.
 use crate::scan::table_fits;
 use script::LAST_NUMBER;
 use script::ROWS;
@@ -22,7 +22,7 @@ ghost use Rattle.script.specs.Sound.{Sound, SoundRecord};
 ghost use Rattle.sound.specs.Steps.{Upto};
 
 pub mod faults;
-pub mod scan;
+mod scan;
 
 // Whether this record and this table are sound, for any values of both.
 pub fn sound(r: Replica, table: &[u8]) -> bool

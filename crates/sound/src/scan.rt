@@ -19,7 +19,7 @@ ghost use Rattle.script.specs.Lines.{tableSize};
 ghost use Rattle.sound.specs.Steps.{Upto, Fits, LastFits, RowFits, Rises, TableFits, behindMask, startMask};
 
 // The table of a record whose ranges hold.
-pub fn table_fits(rows: usize, counts: [u32; SITES], table: &[u8]) -> bool
+pub(crate) fn table_fits(rows: usize, counts: [u32; SITES], table: &[u8]) -> bool
     requires { ⌜ (length (now table) ≡ tableSize) × (rows ≤ 512) ⌝ }
     ensures { λ b. ⌜ (b ≡ true) ↔ TableFits rows counts (now (table .entry)) ⌝ }
 {
