@@ -15,7 +15,8 @@ pub fn number_2(s: &[u8], at: usize) -> u16
     (s[at] as u16) * 256 + (s[at + 1] as u16)
 }
 
-// The number of 4 bytes at a place.
+// The number of 4 bytes at a place. One expression: the machine then reads it as one word, and not if
+// it is put together from two numbers of 2 bytes.
 pub fn number_4(s: &[u8], at: usize) -> u32
     requires { ⌜ at + 4 ≤ length (now s) ⌝ }
     ensures { λ r. ⌜ r ≡ numAt 4 (now (s .entry)) at ⌝ }
@@ -24,7 +25,7 @@ pub fn number_4(s: &[u8], at: usize) -> u32
         + (s[at + 3] as u32)
 }
 
-// The number of 8 bytes at a place. Two halves of 4: the machine then reads it as one word.
+// The number of 8 bytes at a place, by its halves: one word too.
 pub fn number_8(s: &[u8], at: usize) -> u64
     requires { ⌜ at + 8 ≤ length (now s) ⌝ }
     ensures { λ r. ⌜ r ≡ numAt 8 (now (s .entry)) at ⌝ }

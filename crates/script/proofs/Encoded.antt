@@ -14,10 +14,11 @@ use Rattle.rows.specs.Rows.{filled, slotsOf}
 use Rattle.rows.proofs.Digits.{Bytes, bytes-drop, part-at, read-on, bytes-length}
 use Rattle.rows.proofs.Digits.{num-back, num-there, bytes-back, byte-there, byte-back}
 use Rattle.rows.proofs.Slots.{filled-length, filled-back, filled-front, filled-zero}
-use Rattle.rows.proofs.Slots.{slots-length, rows-length, zero-behind, slots-back, slots-front}
+use Rattle.rows.proofs.Slots.{slots-length, zero-behind, slots-back, slots-front}
 use Rattle.script.specs.Lines.{Line, encodeIdentifier, encodeRow, usedOf, decodeIdentifier}
 use Rattle.script.specs.Lines.{identifiersOf, numberOf, textLengthOf, textOf, decodeRow}
 use Rattle.script.specs.Sound.{SoundLine, SoundRow}
+use Rattle.script.proofs.Identifiers.{identifiers-length}
 
 -- An identifier's three bytes.
 
@@ -134,8 +135,7 @@ unfolding encodeRow decodeRow identifiersOf
 row-bytes counts row b h sound =
     let after-1 = drop 1 row in
     let after-30 = drop 30 row in
-    let used : length (identifiersOf row) ≡ usedOf row =
-    rows-length decodeIdentifier 3 (usedOf row) after-1 in
+    let used = identifiers-length row in
     let most : usedOf row ≤ 8 = omega (arith, sound .line .position .most) in
     let slots-long : length after-1 ≡ length row - 1 = length-drop 1 row in
     let text-long : length after-30 ≡ length row - 30 = length-drop 30 row in

@@ -1,5 +1,5 @@
--- Where a position stands among the lines (01, 'Answer numbers': "a row has this position already";
--- 'What is built': rows count from 0).
+-- Where a position stands among the lines (01, 'Answer numbers': "a row has this position already",
+-- "Rows count from 0").
 -- Assumes nothing.
 use Prim.Native.Nat.{suc}
 use mathlib.Core.List.{List, [], _∷_}

@@ -1,5 +1,6 @@
--- When record and table are sound (01, 'The record and the table', with 01's 'Numbers that bound
--- it'), in the order of that sentence: ranges, what must be zero, rising rows, counted lines.
+-- When record and table are sound (01, 'The record and the table', with the ranges of 'Numbers that
+-- bound it'): the record by itself, then the table: its size, each row in use with its ranges, its
+-- author's count and what is unused in it, the rows that are not in use, and that rows rise.
 -- Assumes nothing.
 use Prim.Native.Nat.{ℕ, suc, _+_, _*_, _≤_, _<_}
 use mathlib.Core.Path.{_≡_}
@@ -29,7 +30,7 @@ pub record SoundLine (counts : List ℕ) (l : Line) : Type 0 where
   pub counted : l .number ≤ countOf counts (authorOf (l .position))
 
 -- the bytes of a row in use: a sound line, and "What is unused is zero". The length byte has its own
--- field, since behind the last row there is no text that it could count.
+-- field: in the last row of the table one above 48 would still read as a text of 48 bytes.
 pub record SoundRow (counts row : List ℕ) : Type 0 where
   pub line : SoundLine counts (decodeRow row)
   pub text-length : textLengthOf row ≤ 48

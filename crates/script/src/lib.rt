@@ -3,7 +3,7 @@
 //
 // Rests on `position` for the order of lines, and on `rows` for numbers and for moving rows. What a
 // table means is the list of its lines (specs/Lines.antt); when record and table are sound is
-// specs/Sound.antt, and that a sound table is the encoding of its lines is proofs/Encoded.antt.
+// specs/Sound.antt, and that a sound table is the encoding of its lines is proofs/Tables.antt.
 // Deciding soundness is the crate `sound`.
 
 pub mod record;

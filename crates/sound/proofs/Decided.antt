@@ -8,7 +8,7 @@ use mathlib.Core.List.{List}
 use lib.ListN.{length, drop, getD, length-drop}
 use lib.Seq.{getD-drop}
 use Rattle.rows.specs.Numbers.{numAt}
-use Rattle.rows.proofs.Digits.{Bytes}
+use Rattle.rows.proofs.Digits.{Bytes, bytes-drop}
 use Rattle.script.specs.declared.Replica.{Replica}
 use Rattle.script.specs.Lines.{decodeRow, rowAt}
 use Rattle.script.specs.Sound.{SoundRecord, Sound}
@@ -20,7 +20,7 @@ use Rattle.sound.proofs.Rising.{rises-below, below-rises, first-rises, 
 
 module _ (r : Replica) (t : List ℕ) (bytes : Bytes t) where
   row-bytes : (i : ℕ) → Bytes (rowAt t i)
-  row-bytes i j = rw (getD-drop (i * 78) t j 0) (bytes (i * 78 + j))
+  row-bytes i = bytes-drop (i * 78) t bytes
 
   position-at : (i : ℕ) → RowFits (r .counts) (rowAt t i) → RowPosition (rowAt t i)
   position-at i h = row-position (r .counts) (rowAt t i) h (row-bytes i)

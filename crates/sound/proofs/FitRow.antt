@@ -16,7 +16,8 @@ use Rattle.script.specs.Lines.{usedOf, textLengthOf, identifiersOf, decodeRow}
 use Rattle.script.specs.Sound.{SoundRow}
 use Rattle.sound.specs.Steps.{SlotFits, authorByte, RowFits}
 use Rattle.sound.proofs.OneNumber.{RowPosition}
-use Rattle.sound.proofs.Identifiers.{slotAt, identifiers-length, identifier-at, author-at}
+use Rattle.script.proofs.Identifiers.{identifiers-length}
+use Rattle.sound.proofs.Identifiers.{slotAt, slot-at, author-at, author-most}
 
 -- a proper identifier is the pad where it has no site, and has one where it is not the pad
 module _ (i : Identifier) (h : Proper i) where
@@ -74,22 +75,17 @@ module _ (counts row : List ℕ) where
           least = omega (arith, h .used-least);
           most = omega (arith, h .used-most);
           proper = λ k l.
-              rw (identifier-at row k (omega arith)) (slot-proper k (omega (arith, h .used-most)));
+              rw (slot-at row k (omega arith)) (slot-proper k (omega (arith, h .used-most)));
           unpadded = λ e. omega (arith, h .author, sym author ∙ ap (λ (i : Identifier). i .site) e);
-          first = rw (identifier-at row 0 (h .used-least)) (omega arith);
+          first = rw (slot-at row 0 (h .used-least)) (omega arith);
         }
-
-    author-most : authorByte row ≤ 16
-    author-most =
-        let k = usedOf row - 1 in
-        let at : k * 3 + 3 ≡ 3 * usedOf row = omega (arith, h .used-least) in
-        subst (λ (n : ℕ). getD row n 0 ≤ 16) at (slot-proper k (omega (arith, h .used-most)) .site)
 
     pub fits-row : ((i : ℕ) → i < 16 → getD counts i 0 ≤ 1000000) → numAt 2 row 1 ≤ 65534 →
         SoundRow counts row
     unfolding decodeRow
     fits-row most first =
-        let author : authorByte row - 1 < 16 = omega (arith, author-most) in
+        let site = author-most row (usedOf row) (h .used-least) (h .used-most) (h .slots) in
+        let author : authorByte row - 1 < 16 = omega arith in
         record {
           line =
               record {
@@ -134,7 +130,7 @@ module _ (counts row : List ℕ) where
             let k = j / 3 in
             let at : k * 3 ≡ j = omega arith in
             let own = position .proper k (omega (arith, identifiers-length row)) in
-            subst (λ (n : ℕ). Proper (slotAt row n)) at (rw (identifier-at row k (omega arith)) at own)
+            subst (λ (n : ℕ). Proper (slotAt row n)) at (rw (slot-at row k (omega arith)) at own)
 
         outside : ¬ (j < usedOf row * 3) → Proper (slotAt row j)
         outside l =
@@ -161,4 +157,4 @@ module _ (counts row : List ℕ) where
 
     pub first-most : numAt 2 row 1 ≤ 65534
     unfolding numAt
-    first-most = omega (arith, rw (identifier-at row 0 used-least) at (position .first))
+    first-most = omega (arith, rw (slot-at row 0 used-least) at (position .first))

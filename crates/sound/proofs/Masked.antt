@@ -2,15 +2,15 @@
 -- Assumes nothing.
 use Prim.Native.Nat.{ℕ, zero, suc, _+_, _-_, _%_, _≤_, _<_}
 use native.Mathlib.Omega.{arith}
-use native.Mathlib.Nat.{eq-or-lt-of-le}
+use native.Mathlib.Nat.{eq-or-lt-of-le, le-of-suc-le-suc, add-zero, zero-add, add-suc, suc-add}
 use native.Mathlib.Decide.{decLt}
 use mathlib.Core.Path.{_≡_, refl, sym, ap, subst, _∙_}
 use mathlib.Core.Bool.{Bool, true, false, cond, _&&_}
 use mathlib.Core.Logic.{_↔_, by-cases, ⊎-elim}
-use mathlib.Core.List.{List}
+use mathlib.Core.List.{List, [], _∷_}
 use lib.Bits.{bitAnd, bitOr, or-add-and, and-le-l, and-le-r, and-mask, and-zero-r}
 use borrow.Author.Tests.{eqb-true, eqb-false, ltb-true, ltb-false}
-use lib.Dec.{T, eqb, ltb, eqb→eq}
+use lib.Dec.{eqb, ltb}
 use lib.ListN.{getD, replicate, getD-replicate, List·getD-append}
 use lib.Seq.{getD-append-add}
 use Rattle.sound.specs.Steps.{Upto, behindMask, startMask}
@@ -73,30 +73,23 @@ data Start (j : ℕ) : ℕ → Type 0 where
   starts : (j % 3 ≡ 0) × (j < 24) → Start j 255
   between : ((j % 3 ≡ 0) × (j < 24) → ⊥) → Start j 0
 
-abbrev all-below : ℕ → (ℕ → Bool) → Bool
-all-below zero f = true
-all-below (suc n) f = f n && all-below n f
+-- the mask's byte at j
+abbrev mark : ℕ → ℕ
+mark j = cond (eqb (j % 3) 0 && ltb j 24) 255 0
 
-both-parts : (a b : Bool) → T (a && b) → T a × T b
-both-parts true b t = (tt, t)
-both-parts false b t = absurd t
+-- f at n places, counted from i
+abbrev listed : (ℕ → ℕ) → ℕ → ℕ → List ℕ
+listed f i zero = []
+listed f i (suc n) = f i ∷ listed f (suc i) n
 
-each-below : (n : ℕ) (f : ℕ → Bool) → T (all-below n f) → (j : ℕ) → j < n → T (f j)
-each-below zero f t j less = absurd (omega arith)
-each-below (suc n) f t j less =
-    let parts = both-parts (f n) (all-below n f) t in
-    ⊎-elim (λ (q : j ≡ n). subst (λ (k : ℕ). T (f k)) (sym q) (parts .0)) (λ (l : j < n). each-below n f (parts .1) j l)
-    (eq-or-lt-of-le (omega arith))
+listed-at : (f : ℕ → ℕ) (i n j : ℕ) → j < n → getD (listed f i n) j 0 ≡ f (i + j)
+listed-at f i (suc n) zero h = ap f (sym (add-zero i))
+listed-at f i (suc n) (suc j) h = listed-at f (suc i) n j (le-of-suc-le-suc h) ∙ ap f (suc-add i j ∙ sym (add-suc i j))
 
-starting : ℕ → Bool
-starting j = eqb (j % 3) 0 && ltb j 24
-
-right : ℕ → Bool
-right j = eqb (getD startMask j 0) (cond (starting j) 255 0)
-
+-- the mask is its rule, listed: both compute to the same 32 numbers
 start-at : (j : ℕ) → j < 32 → Start j (getD startMask j 0)
-unfolding starting right
-start-at j less = subst (Start j) (sym (eqb→eq _ _ (each-below 32 right tt j less))) (by (eqb (j % 3) 0) (ltb j 24) refl refl)
+start-at j less =
+    subst (Start j) (sym (listed-at mark 0 32 j less ∙ ap mark (zero-add j))) (by (eqb (j % 3) 0) (ltb j 24) refl refl)
   where
     by : (a b : Bool) → eqb (j % 3) 0 ≡ a → ltb j 24 ≡ b → Start j (cond (a && b) 255 0)
     by true true p q = starts (eqb-true (j % 3) 0 p, ltb-true j 24 q)

@@ -13,7 +13,7 @@ use Rattle.position.proofs.Ordered.{less-below, below-less, equal-same, more-ab
 use Rattle.rows.specs.Numbers.{numAt}
 use Rattle.rows.specs.Rows.{rowsOf}
 use Rattle.sound.proofs.Compared.{compared}
-use Rattle.rows.proofs.Digits.{Bytes, num-drop, num-one}
+use Rattle.rows.proofs.Digits.{Bytes, bytes-drop, num-drop, num-one}
 use Rattle.script.specs.Lines.{decodeIdentifier, identifiersOf}
 use Rattle.sound.proofs.Zeros.{num-zero, num-positive}
 
@@ -36,7 +36,7 @@ module _ (n u : ℕ) (s : List ℕ) where
   behind-first : Slots (suc n) (suc u) s → Slots n u (drop 3 s)
   behind-first h =
       record {
-        bytes = λ i. rw (getD-drop 3 s i 0) (h .bytes (3 + i));
+        bytes = bytes-drop 3 s (h .bytes);
         most = omega (arith, h .most);
         unused = λ j k l. getD-drop 3 s j 0 ∙ h .unused (3 + j) (omega arith) (omega arith);
         last = λ j k. rw (getD-drop 3 s j 0) (h .last (3 + j) (omega arith));
@@ -79,7 +79,7 @@ pub record RowPosition (row : List ℕ) : Type 0 where
 row-slots : (row : List ℕ) → RowPosition row → Slots 8 (getD row 0 0) (drop 1 row)
 row-slots row h =
     record {
-      bytes = λ i. rw (getD-drop 1 row i 0) (h .bytes (1 + i));
+      bytes = bytes-drop 1 row (h .bytes);
       most = h .most;
       unused = λ j k l. getD-drop 1 row j 0 ∙ h .unused j k l;
       last = λ j k.
@@ -118,7 +118,3 @@ start =
       unused = λ j k l. refl;
       last = λ l. absurd (omega arith);
     }
-
-pub above-start : (row : List ℕ) → RowPosition row → ([] ≺ identifiersOf row) ↔ (0 < numAt 24 row 1)
-unfolding identifiersOf rowsOf
-above-start row h = rw (unused-zero [] start refl) at (below-is-less [] row start h)

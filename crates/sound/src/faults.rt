@@ -3,11 +3,12 @@
 // turns are lanes of a vector.
 use rows::moves::clear;
 ghost use mathlib.Core.Path.{_≡_};
+ghost use mathlib.Core.Bool.{true};
 ghost use mathlib.Core.Logic.{_↔_};
 ghost use Prim.Native.Nat.{_+_, _*_, _≤_};
-ghost use lib.ListN.{length, getD};
+ghost use lib.ListN.{length};
 ghost use Rattle.position.specs.Positions.{Proper, identifier};
-ghost use Rattle.sound.specs.Steps.{Upto, SlotFits, TextFits, behindMask, startMask};
+ghost use Rattle.sound.specs.Steps.{Upto, SlotFits, TextFits, AllZero, behindMask, startMask};
 
 // 48 zeros and 48 of 255: read from place 48 - n on, it masks out what stands before place n.
 pub(crate) fn behind_mask() -> [u8; 96]
@@ -34,14 +35,14 @@ pub(crate) fn start_mask() -> [u8; 32]
     mask
 }
 
-// One identifier: neither the pad nor both parts in range.
+// Not 0 where an identifier is neither the pad nor has both parts, in range.
 fn slot_fault(high: u8, low: u8, site: u8) -> u8
     ensures { λ r. ⌜ (r ≡ 0) ↔ Proper (identifier (high * 256 + low) site) ⌝ }
 {
     (((high | low) == 0) as u8 ^ (site == 0) as u8) | ((16 < site) as u8)
 }
 
-// The eight identifiers of a row: each is proper, and those that are unused have no site.
+// 0 where each of a row's eight identifiers is proper and those that are unused have no site.
 pub(crate) fn slot_faults(row: &[u8], used: usize, behind: &[u8; 96], starts: &[u8; 32]) -> u8
     requires { ⌜ (78 ≤ length (now row)) × ((used ≤ 8) × ((now behind ≡ behindMask) × (now starts ≡ startMask))) ⌝ }
     ensures { λ r. ⌜ (r ≡ 0) ↔ Upto 32 (SlotFits used (now (row .entry))) ⌝ }
@@ -57,7 +58,7 @@ pub(crate) fn slot_faults(row: &[u8], used: usize, behind: &[u8; 96], starts: &[
     faults
 }
 
-// The text of a row: what is unused is zero.
+// 0 where what is unused of a row's text is zero.
 pub(crate) fn text_faults(row: &[u8], used: usize, behind: &[u8; 96]) -> u8
     requires { ⌜ (78 ≤ length (now row)) × ((used ≤ 48) × (now behind ≡ behindMask)) ⌝ }
     ensures { λ r. ⌜ (r ≡ 0) ↔ Upto 48 (TextFits used (now (row .entry))) ⌝ }
@@ -72,9 +73,9 @@ pub(crate) fn text_faults(row: &[u8], used: usize, behind: &[u8; 96]) -> u8
     faults
 }
 
-// Bytes that must all be zero.
-pub fn any(s: &[u8]) -> u8
-    ensures { λ r. ⌜ (r ≡ 0) ↔ Upto (length (now (s .entry))) (λ j. getD (now (s .entry)) j 0 ≡ 0) ⌝ }
+// Whether all bytes are zero.
+pub fn all_zero(s: &[u8]) -> bool
+    ensures { λ b. ⌜ (b ≡ true) ↔ AllZero (now (s .entry)) ⌝ }
 {
     let mut faults = 0u8;
     let mut j = 0;
@@ -82,5 +83,5 @@ pub fn any(s: &[u8]) -> u8
         faults = faults | s[j];
         j = j + 1;
     }
-    faults
+    faults == 0
 }

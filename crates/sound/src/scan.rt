@@ -1,6 +1,6 @@
 // One pass over the table: each row by itself, its words against those of the row before, then the
 // rows that are not in use.
-use crate::faults::any;
+use crate::faults::all_zero;
 use crate::faults::behind_mask;
 use crate::faults::slot_faults;
 use crate::faults::start_mask;
@@ -26,7 +26,7 @@ pub(crate) fn table_fits(rows: usize, counts: [u32; SITES], table: &[u8]) -> boo
     if rows_fit(rows, &counts, table) {
         if last_fits(rows, table) {
             let used = rows * ROW;
-            any(&table[used..]) == 0
+            all_zero(&table[used..])
         } else {
             false
         }

@@ -1,42 +1,27 @@
 -- `position` meets its contract. The loop's invariant: the identifiers read so far, then pads. The
 -- measure is how many are left.
 -- Assumes nothing.
-use Prim.Native.Nat.{ℕ, _+_, _-_, _*_, _<_, _≤_}
+use Prim.Native.Nat.{ℕ, _+_, _-_, _*_, _≤_}
 use native.Mathlib.Omega.{arith}
 use mathlib.Core.Path.{_≡_, refl, sym, ap, _∙_}
 use mathlib.Core.List.{List, _++_}
 use lib.ListN.{length, take, drop, getD, replicate}
-use lib.Seq.{getD-drop, take-all}
+use lib.Seq.{take-all}
 use Rattle.position.specs.Positions.{identifier, pad, positionOf}
-use Rattle.rows.specs.Numbers.{numAt}
-use Rattle.rows.proofs.Digits.{num-drop}
-use Rattle.rows.proofs.Slots.{rows-length, rows-at}
 use Rattle.rows.proofs.Bytes.{copied-more, drop-replicate}
-use Rattle.script.specs.Lines.{decodeIdentifier, identifiersOf, usedOf}
+use Rattle.script.specs.Lines.{identifiersOf, usedOf}
+use Rattle.script.proofs.Identifiers.{identifiers-length, identifier-at}
 use Rattle.script.proofs.row.position.Statement.{statement}
 use Rattle.script.proofs.row.position.Tie as tie
-
-ids-length : (row : List ℕ) → length (identifiersOf row) ≡ usedOf row
-unfolding identifiersOf
-ids-length row = rows-length decodeIdentifier 3 (usedOf row) (drop 1 row)
-
-id-at : (row : List ℕ) (i : ℕ) → i < usedOf row
-    → getD (identifiersOf row) i pad ≡ identifier (numAt 2 row (1 + 3 * i)) (getD row (3 + 3 * i) 0)
-unfolding identifiersOf decodeIdentifier
-id-at row i h =
-    let integer : 1 + (i * 3 + 0) ≡ 1 + 3 * i = omega arith in
-    let site : 1 + (i * 3 + 2) ≡ 3 + 3 * i = omega arith in
-    rows-at decodeIdentifier 3 (usedOf row) i (drop 1 row) pad h
-    ∙ rw (num-drop, num-drop, getD-drop, getD-drop, integer, site)
 
 -- all are read
 ids-all : (row : List ℕ) (i : ℕ) → i ≡ usedOf row
     → take i (identifiersOf row) ++ drop i (replicate 8 pad) ≡ positionOf (identifiersOf row) .ids
 ids-all row i e =
     let read = identifiersOf row in
-    let all : take i read ≡ read = take-all i read (omega (arith, ids-length row)) in
+    let all : take i read ≡ read = take-all i read (omega (arith, identifiers-length row)) in
     let pads : drop i (replicate 8 pad) ≡ replicate (8 - length read) pad =
-    drop-replicate pad i 8 ∙ ap (λ (n : ℕ). replicate (8 - n) pad) (e ∙ sym (ids-length row)) in
+    drop-replicate pad i 8 ∙ ap (λ (n : ℕ). replicate (8 - n) pad) (e ∙ sym (identifiers-length row)) in
     rw (all, pads)
 
 pub position-spec : {M : Type 1} → statement M
@@ -64,14 +49,14 @@ position-spec =
     let integer = c .before .number-2 in
     let site = getD row (3 + 3 * at .i) 0 in
     let id : identifier (integer .result) site ≡ getD (identifiersOf row) (at .i) pad =
-    ap (λ (x : ℕ). identifier x site) (integer .ensures) ∙ sym (id-at row (at .i) (omega arith)) in (
+    ap (λ (x : ℕ). identifier x site) (integer .ensures) ∙ sym (identifier-at row (at .i) (omega arith)) in (
       omega arith,
       copied-more (identifiersOf row) (replicate 8 pad) (at .i) pad (at .ids)
-          (identifier (integer .result) site) (omega (arith, ids-length row)) (omega arith) (at .inv .1) id,
+          (identifier (integer .result) site) (omega (arith, identifiers-length row)) (omega arith) (at .inv .1) id,
     ))
     (λ c.
     let row = c .before .before .before .before .args .row .now in
     let at = c .before .loop in
     let ids : at .ids ≡ positionOf (identifiersOf row) .ids =
     at .inv .1 ∙ ids-all row (at .i) (omega arith) in
-    λ d. record { used = sym (ids-length row) d; ids = ids d }))
+    λ d. record { used = sym (identifiers-length row) d; ids = ids d }))

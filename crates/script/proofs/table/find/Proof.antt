@@ -15,11 +15,11 @@ use Rattle.position.specs.Positions.{idsOf, positionOf}
 use Rattle.position.specs.Order.{orderOf, _≺_}
 use Rattle.position.proofs.Ids.{position-ids}
 use Rattle.rows.proofs.Bytes.{rest-lent}
-use Rattle.rows.proofs.Slots.{rows-length}
 use Rattle.script.specs.declared.Replica.{Replica}
-use Rattle.script.specs.Lines.{Line, decodeIdentifier, identifiersOf, usedOf}
+use Rattle.script.specs.Lines.{Line, identifiersOf, usedOf}
 use Rattle.script.specs.Lines.{decodeRow, rowAt, decodeTable}
 use Rattle.script.specs.Sound.{Sound}
+use Rattle.script.proofs.Identifiers.{identifiers-length}
 use Rattle.script.proofs.Tables.{lines-length, line-at}
 use Rattle.script.proofs.Held.{sound-lines}
 use Rattle.script.proofs.Finding.{placeAt, Under, found-same, found-gap, under-below}
@@ -29,11 +29,10 @@ use Rattle.script.proofs.table.find.Tie as tie
 -- a row in use can be read
 row-there : (r : Replica) (t : List ℕ) (k : ℕ) → Sound r t → k < r .rows
     → let row = take (length t - k * 78) (drop (k * 78) t) in (25 ≤ length row) × (usedOf row ≤ 8)
-unfolding identifiersOf decodeRow
+unfolding decodeRow
 row-there r t k sound h =
     let size : 78 ≤ length (rowAt t k) = omega (arith, length-drop (k * 78) t, sound .size, sound .own .rows) in
-    let used : length (identifiersOf (rowAt t k)) ≡ usedOf (rowAt t k) =
-    rows-length decodeIdentifier 3 (usedOf (rowAt t k)) (drop 1 (rowAt t k)) in
+    let used = identifiers-length (rowAt t k) in
     rw (rest-lent (k * 78) t) (omega arith, omega (arith, sound .row k h .line .position .most))
 
 -- what the comparison tells of line k

@@ -1,22 +1,13 @@
 -- `row_fits` meets its contract: each refusal is one field that fails, and past all of them the last
 -- test decides.
 -- Assumes nothing.
-use Prim.Native.Nat.{ℕ, _+_, _-_, _*_, _≤_}
+use Prim.Native.Nat.{_-_, _*_, _≤_}
 use native.Mathlib.Omega.{arith}
-use mathlib.Core.Path.{_≡_, subst}
-use mathlib.Core.List.{List}
 use lib.ListN.{getD}
-use Rattle.sound.specs.Steps.{Upto, SlotFits}
 use Rattle.sound.proofs.Answers.{refused, means, at-most}
+use Rattle.sound.proofs.Identifiers.{author-most}
 use Rattle.sound.proofs.scan.row_fits.Statement.{statement}
 use Rattle.sound.proofs.scan.row_fits.Tie as tie
-
--- the last identifier in use is proper, so the author is a site
-author-most : (row : List ℕ) (used : ℕ) → 1 ≤ used → used ≤ 8 → Upto 32 (SlotFits used row) → getD row (3 * used) 0 ≤ 16
-author-most row used least most slots =
-    let j = 3 * (used - 1) in
-    let at : j + 3 ≡ 3 * used = omega arith in
-    subst (λ (k : ℕ). getD row k 0 ≤ 16) at (slots j (omega arith) (omega arith, omega arith) .0 .site)
 
 -- what is known past all refusals but the last
 author-16 : (c : tie.Else7) → let a = c .before .before .before .before .before .before .before .before .before .before .before .before .before .before .args in getD (a .row .now) (3 * getD (a .row .now) 0 0) 0 ≤ 16

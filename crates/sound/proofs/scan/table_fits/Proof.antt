@@ -5,7 +5,7 @@ use native.Mathlib.Omega.{arith}
 use mathlib.Core.Path.{sym, subst}
 use Rattle.rows.proofs.Bytes.{rest-lent}
 use Rattle.sound.specs.Steps.{AllZero}
-use Rattle.sound.proofs.Answers.{refused, no-answer, means, equal}
+use Rattle.sound.proofs.Answers.{refused, no-answer, means}
 use Rattle.sound.proofs.scan.table_fits.Statement.{statement}
 use Rattle.sound.proofs.scan.table_fits.Tie as tie
 
@@ -23,14 +23,14 @@ table-fits-spec =
     (λ c.
     let start = c .before .before .before .before .before .before .before .before in
     let rest = rest-lent (start .args .rows * 78) (start .args .table .now) in
-    means (equal (c .any .result) 0)
+    means (c .all-zero .ensures)
     (λ clear.
     record {
       size = start .pre .0;
       each = c .before .before .before .before .before .rows-fit .ensures .0 (c .before .before .before .before .if1 .taken);
       last = c .before .before .before .last-fits .ensures .0 (c .before .before .if2 .taken);
-      unused = subst AllZero rest (c .any .ensures .0 clear);
+      unused = subst AllZero rest clear;
     })
-    (λ fits. c .any .ensures .1 (subst AllZero (sym rest) (fits .unused))))
+    (λ fits. subst AllZero (sym rest) (fits .unused)))
     (λ c. refused (λ fits. no-answer (c .before .last-fits .result) (c .if2 .left) (c .before .last-fits .ensures .1 (fits .last))))
     (λ c. refused (λ fits. no-answer (c .before .rows-fit .result) (c .if1 .left) (c .before .rows-fit .ensures .1 (fits .each)))))

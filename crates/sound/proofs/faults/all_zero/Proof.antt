@@ -1,4 +1,4 @@
--- `any` meets its contract: after j turns the faults are 0 exactly where the first j bytes are.
+-- `all_zero` meets its contract: after j turns the faults are 0 exactly where the first j bytes are.
 -- Assumes nothing.
 use Prim.Native.Nat.{_-_, _≤_}
 use native.Mathlib.Omega.{arith}
@@ -6,9 +6,10 @@ use mathlib.Core.Path.{_≡_}
 use mathlib.Core.Logic.{_↔_}
 use lib.ListN.{length, getD}
 use Rattle.sound.specs.Steps.{Upto}
+use Rattle.sound.proofs.Answers.{means, equal}
 use Rattle.sound.proofs.Masked.{none, more, all}
-use Rattle.sound.proofs.faults.any.Statement.{statement}
-use Rattle.sound.proofs.faults.any.Tie as tie
+use Rattle.sound.proofs.faults.all_zero.Statement.{statement}
+use Rattle.sound.proofs.faults.all_zero.Tie as tie
 
 abbrev Inv-loop : tie.InvT-loop
 Inv-loop s faults₀ j₀ faults j = (j ≤ length s) × ((faults ≡ 0) ↔ Upto j (λ i. getD s i 0 ≡ 0))
@@ -16,8 +17,8 @@ Inv-loop s faults₀ j₀ faults j = (j ≤ length s) × ((faults ≡ 0) ↔ Upt
 abbrev μ-loop : tie.MeasureT-loop
 μ-loop s faults₀ j₀ faults j = length s - j
 
-pub any-spec : {M : Type 1} → statement M
-any-spec =
+pub all-zero-spec : {M : Type 1} → statement M
+all-zero-spec =
     tie.close
     (tie.spec
     Inv-loop
@@ -27,4 +28,7 @@ any-spec =
     (λ c. omega arith)
     (λ c. omega arith)
     (λ c. let l = c .before .before .loop in (omega arith, more (l .faults) _ (l .j) (l .inv .1) ((λ h. h), (λ h. h))))
-    (λ c. let l = c .before .loop in all (l .faults) (l .j) _ (omega arith) (l .inv .1)))
+    (λ c.
+    let l = c .before .loop in
+    let every = all (l .faults) (l .j) _ (omega arith) (l .inv .1) in
+    means (equal (l .faults) 0) (every .0) (every .1)))
