@@ -11,7 +11,7 @@ use script::table::take_row;
 // Or-s all bytes together: the least that a look at every byte costs.
 #[no_mangle]
 pub extern "C" fn bench_all_zero(bytes: &[u8]) -> bool {
-    sound::faults::all_zero(bytes)
+    rows::moves::all_zero(bytes)
 }
 
 // Whether the record of 67 bytes and the table are sound.

@@ -5,8 +5,7 @@
 // A comparison writes `below`, `same` or `above`. A place writes what draw 0, the last draw of its
 // run and the draw after that give, which is the run's first, last and first again; or `none`.
 //
-// Rests on `position`, and on `io` to write.
-use libc::STDOUT_FILENO;
+// Rests on `position`, and on `show` to write.
 use position::Identifier;
 use position::Position;
 use position::order::Order;
@@ -69,61 +68,38 @@ fn eight(a: Identifier, b: Identifier) -> Position {
 }
 
 fn show_order(name: &[u8], p: Position, q: Position) {
-    write(name);
+    show::write(name);
     let order = compare(p, q);
     match order {
-        Order::Below => write(b" below\n"),
-        Order::Same => write(b" same\n"),
-        Order::Above => write(b" above\n"),
+        Order::Below => show::write(b" below\n"),
+        Order::Same => show::write(b" same\n"),
+        Order::Above => show::write(b" above\n"),
     }
 }
 
 fn show_run(name: &[u8], p: Position, q: Position, site: u8, last: u16) {
-    write(name);
+    show::write(name);
     show_place(p, q, site, 0);
     show_place(p, q, site, last as u32);
     show_place(p, q, site, last as u32 + 1);
-    write(b"\n");
+    show::write(b"\n");
 }
 
 fn show_draw(name: &[u8], p: Position, q: Position, site: u8, draw: u32) {
-    write(name);
-    write(b" draw ");
-    io::print_decimal(STDOUT_FILENO, draw as u64);
+    show::write(name);
+    show::write(b" draw ");
+    show::number(draw as u64);
     show_place(p, q, site, draw);
-    write(b"\n");
+    show::write(b"\n");
 }
 
 // The place as integer.site, joined by commas.
 fn show_place(p: Position, q: Position, site: u8, draw: u32) {
     let placed = place(p, q, site, draw);
     if placed.made {
-        write(b" ");
-        show_position(placed.place);
+        show::write(b" ");
+        show::position(placed.place);
     } else {
-        write(b" none");
+        show::write(b" none");
     }
-}
-
-fn show_position(p: Position) {
-    let mut i = 0;
-    while i < Position::LIMIT {
-        if i < p.used {
-            show_identifier(i, p.ids[i]);
-        }
-        i += 1;
-    }
-}
-
-fn show_identifier(i: usize, next: Identifier) {
-    if 0 < i {
-        write(b",");
-    }
-    io::print_decimal(STDOUT_FILENO, next.integer as u64);
-    write(b".");
-    io::print_decimal(STDOUT_FILENO, next.site as u64);
-}
-
-fn write(bytes: &[u8]) {
-    io::write_all(STDOUT_FILENO, bytes);
 }

@@ -3,8 +3,7 @@
 // soundness check on tables and records with one fault each. Its output is compared with the file
 // `stdout`, which is written from the document.
 //
-// Rests on `sound`, `script` and `position`, and on `io` to write.
-use libc::STDOUT_FILENO;
+// Rests on `sound`, `script` and `position`, and on `show` to write.
 use position::Identifier;
 use position::Position;
 use script::RECORD;
@@ -196,80 +195,52 @@ fn counted(name: &[u8], count: u32) {
 }
 
 fn show_sound(name: &[u8], r: Replica, table: &[u8]) {
-    write(name);
+    show::write(name);
     if sound(r, table) {
-        write(b": sound\n");
+        show::write(b": sound\n");
     } else {
-        write(b": not sound\n");
+        show::write(b": not sound\n");
     }
 }
 
 // Where a position stands in the table of two rows.
 fn find_in(name: &[u8], table: &[u8; TABLE], place: Position) {
-    write(name);
+    show::write(name);
     let r = host(2);
     if sound(r, table) {
         show_row(find(r, table, place));
     }
-    write(b"\n");
+    show::write(b"\n");
 }
 
 fn show_row(found: Found) {
     match found {
         Found::Row(k) => {
-            write(b": row ");
-            io::print_decimal(STDOUT_FILENO, k as u64);
+            show::write(b": row ");
+            show::number(k as u64);
         }
         Found::Gap(k) => {
-            write(b": would stand at ");
-            io::print_decimal(STDOUT_FILENO, k as u64);
+            show::write(b": would stand at ");
+            show::number(k as u64);
         }
     }
 }
 
 fn show_text(name: &[u8], table: &[u8; TABLE], k: usize) {
-    write(name);
-    write(b": ");
+    show::write(name);
+    show::write(b": ");
     let r = host(2);
     if sound(r, table) {
         if k < r.rows as usize {
-            write(text(table, k));
+            show::write(text(table, k));
         }
     }
-    write(b"\n");
+    show::write(b"\n");
 }
 
 fn show_bytes(name: &[u8], bytes: &[u8]) {
-    write(name);
-    write(b": ");
-    show_hex(bytes);
-    write(b"\n");
-}
-
-fn show_hex(bytes: &[u8]) {
-    let mut i = 0;
-    while i < bytes.len() {
-        show_byte(bytes[i]);
-        i += 1;
-    }
-}
-
-fn show_byte(byte: u8) {
-    let pair = [digit(byte / 16), digit(byte % 16)];
-    write(&pair);
-}
-
-// The hexadecimal digit of a number below 16.
-fn digit(n: u8) -> u8 {
-    if n < 10 {
-        48 + n
-    } else if n < 16 {
-        55 + n
-    } else {
-        63
-    }
-}
-
-fn write(bytes: &[u8]) {
-    io::write_all(STDOUT_FILENO, bytes);
+    show::write(name);
+    show::write(b": ");
+    show::hex(bytes);
+    show::write(b"\n");
 }

@@ -6,8 +6,8 @@ use native.Mathlib.Numerals.{add-one}
 use native.Mathlib.Omega.{arith}
 use mathlib.Core.Path.{_≡_, refl, sym, ap, _∙_, subst}
 use mathlib.Core.List.{List, [], _∷_, _++_, map, append-assoc}
-use lib.ListN.{length, take, drop, set, getD, replicate, length-take, length-append, length-replicate, length-map, replicate-append-replicate}
-use lib.Seq.{drop-cons, getD-take, take-at, set-at, append-snoc}
+use lib.ListN.{length, take, drop, set, getD, replicate, length-take, length-append, length-replicate, length-map, length-drop, getD-replicate, take-append-drop, replicate-append-replicate}
+use lib.Seq.{drop-cons, ext-getD, getD-drop, getD-take, take-at, set-at, append-snoc}
 use Rattle.position.specs.declared.Identifier.{Identifier}
 use Rattle.position.specs.declared.Position.{Position}
 use Rattle.position.specs.Positions.{identifier, pad, idsOf, positionOf}
@@ -23,6 +23,25 @@ ids-length p h = simp (length-take, h)
 
 pub position-ids : (l : List Identifier) → idsOf (positionOf l) ≡ l
 position-ids l = take-at l (replicate (8 - length l) pad) (length l) refl
+
+-- a value with pads behind its identifiers is the one value of their list
+pub ids-position : (p : Position) → p .used ≤ 8 → length (p .ids) ≡ 8 → ((k : ℕ) → p .used ≤ k → k < 8 → getD (p .ids) k pad ≡ pad)
+    → positionOf (idsOf p) ≡ p
+ids-position p most size unused =
+    let used : length (idsOf p) ≡ p .used = ids-length p size ∙ omega arith in
+    let behind : drop (p .used) (p .ids) ≡ replicate (8 - p .used) pad =
+    ext-getD pad (drop (p .used) (p .ids)) (replicate (8 - p .used) pad)
+    (simp (length-drop, length-replicate) (omega arith))
+    (λ k less.
+    let inside : k < 8 - p .used = omega (arith, length-drop (p .used) (p .ids)) in
+    getD-drop (p .used) (p .ids) k pad ∙ unused (p .used + k) (omega arith) (omega arith)
+    ∙ sym (getD-replicate (8 - p .used) k pad pad inside)) in
+    λ d. record {
+      used = used d;
+      ids = (ap (λ (n : ℕ). idsOf p ++ replicate (8 - n) pad) used
+          ∙ ap (λ (l : List Identifier). idsOf p ++ l) (sym behind)
+          ∙ take-append-drop (p .used) (p .ids)) d;
+    }
 
 pub next-id : (p : Position) (n : ℕ) → n < length (idsOf p) → getD (idsOf p) n pad ≡ getD (p .ids) n pad
 next-id p n h =

@@ -1,4 +1,6 @@
+pub mod Authors
 pub mod Bounds
+pub mod Decided
 pub mod Examples
 pub mod Ids
 pub mod Line

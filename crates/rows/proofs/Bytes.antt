@@ -11,7 +11,7 @@ use borrow.Rule.Slice.PartMut.{midOf, putMid}
 use lib.ListN.{length, take, drop, set, getD, replicate, length-append, length-take, length-drop}
 use lib.ListN.{take-append-drop, drop-of-length-le, replicate-append-replicate}
 use lib.Seq.{drop-cons, take-suc, set-at, set-split, append-snoc, length-take-le, getD-append-add, getD-drop}
-use lib.Seq.{take-all, take-at, drop-length, drop-append-add, drop-drop}
+use lib.Seq.{take-all, take-at, take-take, take-append-le, drop-at, drop-length, drop-append-add, drop-drop}
 use Rattle.rows.specs.Numbers.{bytesOf}
 use Rattle.rows.specs.Rows.{filled, flat, written, within}
 use Rattle.rows.proofs.Digits.{bytes-length}
@@ -88,6 +88,33 @@ written-both at next a b s e h =
     (drop-append-add front behind (length b) ∙ drop-drop (length b) next s) in
     rw (← e, ← append-assoc (take at s) a behind, take-at front behind next size, rest, end)
     (simp append-assoc)
+
+-- bytes written in front of others that stand there already
+pub written-before : (at : ℕ) (a b s : List ℕ) → at + length a ≤ length s
+    → written at a (written (at + length a) b s) ≡ written at (a ++ b) s
+unfolding written
+written-before at a b s h =
+    let next = at + length a in
+    let behind = b ++ drop (next + length b) s in
+    let short : at ≤ length (take next s) = omega (arith, length-take next s) in
+    let front : take at (take next s ++ behind) ≡ take at s =
+    take-append-le at (take next s) behind short ∙ take-take at next s (omega arith) in
+    let size : length (take next s) ≡ next = length-take-le next s h in
+    let end : at + length (a ++ b) ≡ next + length b = omega (arith, length-append a b) in
+    rw (front, drop-at (take next s) behind next size, end) (simp append-assoc)
+
+-- bytes copied to the front of a part that has room for them are written there
+pub copied-written : (at k : ℕ) (bytes s part : List ℕ) → length s ≡ at + k → length bytes ≤ k
+    → let lent = midOf at k s in part ≡ take (length lent) bytes ++ drop (length bytes) lent
+    → putMid at k s part ≡ written at bytes s
+unfolding written
+copied-written at k bytes s part size room e =
+    let left : length (drop at s) ≡ k = omega (arith, length-drop at s) in
+    let lent : take k (drop at s) ≡ drop at s = take-all k (drop at s) (omega arith) in
+    let all : take (length (drop at s)) bytes ≡ bytes = take-all (length (drop at s)) bytes (omega arith) in
+    let short : length (drop at s) ≤ k = omega arith in
+    let none : drop k (drop at s) ≡ [] = drop-of-length-le (drop at s) short in
+    rw (e, lent, all, drop-drop (length bytes) at s, none, append-nil)
 
 set-written : (at b : ℕ) (s : List ℕ) → at < length s → set s at b ≡ written at (b ∷ []) s
 unfolding written

@@ -2,9 +2,10 @@
 -- out. Of any element, width and size: the lines of the script, the identifiers of a position and
 -- the counts of a record are all rows of this kind.
 -- Assumes nothing.
-use Prim.Native.Nat.{ℕ, zero, suc, _+_}
+use Prim.Native.Nat.{ℕ, zero, suc, _+_, _<_}
+use mathlib.Core.Path.{_≡_}
 use mathlib.Core.List.{List, [], _∷_, _++_}
-use lib.ListN.{length, take, drop, replicate}
+use lib.ListN.{length, take, drop, getD, replicate}
 
 -- "What is unused is zero": the first n bytes of l, with zeros behind it where it is shorter
 unfoldable pub filled : ℕ → List ℕ → List ℕ
@@ -46,6 +47,18 @@ takeOut at n s = filled (length s) (take at s ++ drop (at + n) s)
 unfoldable pub written : ℕ → List ℕ → List ℕ → List ℕ
 written at bytes s = take at s ++ (bytes ++ drop (at + length bytes) s)
 
+-- these bytes stand at the front of a slice
+abbrev pub Stands : List ℕ → List ℕ → Type 0
+Stands bytes s = take (length bytes) s ≡ bytes
+
 -- a move of the first n bytes of a slice alone
 unfoldable pub within : ℕ → (List ℕ → List ℕ) → List ℕ → List ℕ
 within n move s = move (take n s) ++ drop n s
+
+-- at each of the first n
+abbrev pub Upto : ℕ → (ℕ → Type 0) → Type 0
+Upto n P = (j : ℕ) → j < n → P j
+
+-- bytes that are all zero
+abbrev pub AllZero : List ℕ → Type 0
+AllZero s = Upto (length s) (λ j. getD s j 0 ≡ 0)

@@ -1,11 +1,14 @@
-// Bytes put into a slice and taken out of it, with what stands behind them moved. The loops run over
-// neighbouring bytes without an exit inside: the compiler makes vectors of them.
+// Bytes put into a slice and taken out of it, with what stands behind them moved; bytes cleared, and
+// whether they are clear. The loops run over neighbouring bytes without an exit inside: the compiler
+// makes vectors of them.
 
 ghost use mathlib.Core.Path.{_≡_};
+ghost use mathlib.Core.Bool.{true};
 ghost use mathlib.Core.List.{_++_};
+ghost use mathlib.Core.Logic.{_↔_};
 ghost use Prim.Native.Nat.{_-_, min};
 ghost use lib.ListN.{length, take, drop, replicate};
-ghost use Rattle.rows.specs.Rows.{filled, putIn, takeOut};
+ghost use Rattle.rows.specs.Rows.{filled, putIn, takeOut, AllZero};
 
 // Puts bytes in at a place: what stood from there on moves up, and as many bytes fall off the end.
 // A place behind the end changes nothing.
@@ -68,6 +71,19 @@ pub fn clear(s: &mut [u8])
         s[i] = 0;
         i = i + 1;
     }
+}
+
+// Whether all bytes are zero.
+pub fn all_zero(s: &[u8]) -> bool
+    ensures { λ b. ⌜ (b ≡ true) ↔ AllZero (now (s .entry)) ⌝ }
+{
+    let mut faults = 0u8;
+    let mut j = 0;
+    while j < s.len() {
+        faults = faults | s[j];
+        j = j + 1;
+    }
+    faults == 0
 }
 
 // Copies bytes over the front, as many as there is room for. What stands behind them stays.

@@ -1,20 +1,23 @@
 -- A line and the bytes of its row: a line that fits is read back from them, and the bytes of a sound
 -- row are written as they were read.
 -- Assumes nothing.
-use Prim.Native.Nat.{ℕ, _-_, _*_, _^_, _≤_, _<_}
+use Prim.Native.Nat.{ℕ, _+_, _-_, _*_, _^_, _≤_, _<_}
 use native.Mathlib.Omega.{arith}
-use mathlib.Core.Path.{_≡_, sym, _∙_}
+use mathlib.Core.Path.{_≡_, sym, ap, _∙_}
 use mathlib.Core.List.{List, _++_, append-assoc}
 use lib.ListN.{length, take, drop, getD, length-append, length-drop}
 use lib.Seq.{length-take-le, drop-at, take-add, drop-drop, getD-drop}
 use Rattle.position.specs.declared.Identifier.{Identifier}
-use Rattle.position.specs.Positions.{pad}
+use Rattle.position.specs.declared.Position.{Position}
+use Rattle.position.specs.Positions.{pad, idsOf}
+use Rattle.position.proofs.Ids.{next-id}
 use Rattle.rows.specs.Numbers.{bytesOf}
-use Rattle.rows.specs.Rows.{filled, slotsOf}
+use Rattle.rows.specs.Rows.{filled, flat, slotsOf, written}
 use Rattle.rows.proofs.Digits.{Bytes, bytes-drop, part-at, read-on, bytes-length}
 use Rattle.rows.proofs.Digits.{num-back, num-there, bytes-back, byte-there, byte-back}
 use Rattle.rows.proofs.Slots.{filled-length, filled-back, filled-front, filled-zero}
-use Rattle.rows.proofs.Slots.{slots-length, zero-behind, slots-back, slots-front}
+use Rattle.rows.proofs.Slots.{flat-length, slots-length, zero-behind, slots-back, slots-front}
+use Rattle.rows.proofs.Bytes.{element-written, written-both, written-length}
 use Rattle.script.specs.Lines.{Line, encodeIdentifier, encodeRow, usedOf, decodeIdentifier}
 use Rattle.script.specs.Lines.{identifiersOf, numberOf, textLengthOf, textOf, decodeRow}
 use Rattle.script.specs.Sound.{SoundLine, SoundRow}
@@ -29,6 +32,26 @@ pub record FittingIdentifier (i : Identifier) : Type 0 where
 pub identifier-length : (i : Identifier) → length (encodeIdentifier i) ≡ 3
 unfolding encodeIdentifier
 identifier-length i = simp (length-append, bytes-length)
+
+-- the next identifier of a position, its integer and then its site, written behind those before it
+pub identifier-written : (p : Position) (i at next end : ℕ) (s : List ℕ) → i < length (idsOf p)
+    → next ≡ at + i * 3 → end ≡ next + 2 → end ≤ length s
+    → let id = getD (p .ids) i pad in
+    written end (bytesOf 1 (id .site)) (written next (bytesOf 2 (id .integer)) (written at (flat encodeIdentifier (take i (idsOf p))) s))
+    ≡ written at (flat encodeIdentifier (take (i + 1) (idsOf p))) s
+unfolding encodeIdentifier
+identifier-written p i at next end s h n e k =
+    let id = getD (p .ids) i pad in
+    let passed = flat encodeIdentifier (take i (idsOf p)) in
+    let so-far = written at passed s in
+    let bytes : length passed ≡ i * 3 =
+    rw (flat-length encodeIdentifier 3 identifier-length, length-take-le i (idsOf p) (omega arith)) in
+    let size : length so-far ≡ length s = written-length at passed s (omega arith) in
+    let integer = bytesOf 2 (id .integer) in
+    let behind : end ≡ next + length integer = omega (arith, bytes-length 2 (id .integer)) in
+    written-both next end integer (bytesOf 1 (id .site)) so-far behind (omega arith)
+    ∙ ap (λ (j : Identifier). written next (encodeIdentifier j) so-far) (sym (next-id p i h))
+    ∙ element-written encodeIdentifier 3 identifier-length (idsOf p) i pad h at next s n (omega arith)
 
 pub identifier-back : (i : Identifier) → FittingIdentifier i → (rest : List ℕ)
     → decodeIdentifier (encodeIdentifier i ++ rest) ≡ i

@@ -1,17 +1,21 @@
 -- The record and its bytes across the C boundary (01, 'The record and the table').
 -- Assumes nothing.
-use Prim.Native.Nat.{ℕ, _-_}
+use Prim.Native.Nat.{ℕ, _-_, _≤_}
 use mathlib.Core.Bool.{cond}
 use mathlib.Core.List.{List, _++_}
 use lib.Dec.{eqb}
 use lib.ListN.{length, drop, getD, replicate}
 use Rattle.rows.specs.Numbers.{numAt, bytesOf}
-use Rattle.rows.specs.Rows.{flat, rowsOf}
+use Rattle.rows.specs.Rows.{flat, rowsOf, Upto}
 use Rattle.script.specs.declared.Replica.{Replica}
 
 -- "for each of the 16 sites a count": that of site 1 stands first
 abbrev pub countOf : List ℕ → ℕ → ℕ
 countOf counts site = getD counts (site - 1) 0
+
+-- "a count is 0 to 1,000,000"
+abbrev pub CountsFit : List ℕ → Type 0
+CountsFit counts = Upto 16 (λ i. getD counts i 0 ≤ 1000000)
 
 -- "Across the C boundary it is 67 bytes: site (1), rows (2), sixteen counts (4 each)."
 abbrev pub recordSize : ℕ

@@ -1,5 +1,6 @@
 // The record's 67 bytes across the C boundary (01, 'The record and the table'): site (1), rows (2),
 // sixteen counts (4 each).
+use crate::LAST_NUMBER;
 use crate::RECORD;
 use crate::Replica;
 use crate::SITES;
@@ -9,10 +10,12 @@ use rows::numbers::put_1;
 use rows::numbers::put_2;
 use rows::numbers::put_4;
 ghost use mathlib.Core.Path.{_≡_};
+ghost use mathlib.Core.Bool.{true};
+ghost use mathlib.Core.Logic.{_↔_};
 ghost use lib.ListN.{length, drop};
 ghost use Rattle.rows.specs.Rows.{rowsOf, flat, written};
 ghost use Rattle.rows.specs.Numbers.{bytesOf};
-ghost use Rattle.script.specs.Records.{recordSize, countFirst, nobody, recordRead, recordWritten};
+ghost use Rattle.script.specs.Records.{CountsFit, recordSize, countFirst, nobody, recordRead, recordWritten};
 
 // Reads the record of 67 bytes. Bytes of any other length give the record of no host, site 0, which
 // is never sound.
@@ -75,4 +78,18 @@ fn write_counts(counts: [u32; SITES], s: &mut [u8])
         put_4(s, 3 + 4 * i, counts[i]);
         i += 1;
     }
+}
+
+// Whether every count is in range.
+pub fn counts_fit(counts: [u32; SITES]) -> bool
+    ensures { λ b. ⌜ (b ≡ true) ↔ CountsFit counts ⌝ }
+{
+    let mut i = 0;
+    while i < SITES {
+        if LAST_NUMBER < counts[i] {
+            return false;
+        }
+        i = i + 1;
+    }
+    true
 }

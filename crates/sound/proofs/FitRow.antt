@@ -7,9 +7,10 @@ use native.Mathlib.Omega.{arith}
 use mathlib.Core.Path.{_≡_, sym, ap, _∙_, subst}
 use mathlib.Core.Logic.{inl, ⊎-elim, by-cases}
 use mathlib.Core.List.{List}
-use lib.ListN.{length, drop, getD, length-take}
+use lib.ListN.{drop, getD, length-take}
 use Rattle.position.specs.declared.Identifier.{Identifier}
-use Rattle.position.specs.Positions.{pad, Proper, lastOf, LinePosition}
+use Rattle.position.specs.Positions.{pad, Proper, LinePosition}
+use Rattle.position.proofs.Authors.{author-least}
 use Rattle.rows.specs.Numbers.{numAt}
 use Rattle.rows.proofs.Digits.{Bytes}
 use Rattle.script.specs.Lines.{usedOf, textLengthOf, identifiersOf, decodeRow}
@@ -19,13 +20,9 @@ use Rattle.sound.proofs.OneNumber.{RowPosition}
 use Rattle.script.proofs.Identifiers.{identifiers-length}
 use Rattle.sound.proofs.Identifiers.{slotAt, slot-at, author-at, author-most}
 
--- a proper identifier is the pad where it has no site, and has one where it is not the pad
-module _ (i : Identifier) (h : Proper i) where
-  no-site-pad : i .site ≡ 0 → i ≡ pad
-  no-site-pad e = ⊎-elim (λ p. p) (λ w. absurd (omega arith)) (h .pad-or-whole)
-
-  site-positive : (i ≡ pad → ⊥) → 1 ≤ i .site
-  site-positive whole = ⊎-elim (λ p. absurd (whole p)) (λ w. w .1) (h .pad-or-whole)
+-- a proper identifier is the pad where it has no site
+no-site-pad : (i : Identifier) → Proper i → i .site ≡ 0 → i ≡ pad
+no-site-pad i h e = ⊎-elim (λ p. p) (λ w. absurd (omega arith)) (h .pad-or-whole)
 
 module _ (counts row : List ℕ) where
   -- What fits is sound.
@@ -109,11 +106,8 @@ module _ (counts row : List ℕ) where
     used-least : 1 ≤ usedOf row
     used-least = omega (arith, identifiers-length row, position .least)
 
-    author-least : 1 ≤ authorByte row
-    author-least =
-        let last = position .proper (length (identifiersOf row) - 1) (omega (arith, position .least)) in
-        rw (author-at row used-least)
-        at (site-positive (lastOf (identifiersOf row)) last (position .unpadded))
+    author-there : 1 ≤ authorByte row
+    author-there = rw (author-at row used-least) at (author-least (identifiersOf row) position)
 
     unused-byte : (n : ℕ) → usedOf row * 3 < n → n ≤ 24 → getD row n 0 ≡ 0
     unused-byte n l m =
@@ -150,7 +144,7 @@ module _ (counts row : List ℕ) where
           text-length = h .text-length;
           slots = λ j l. slot-fits j;
           text = λ j m l. rw (add-comm j 30) (h .unused-text j l m);
-          author = author-least;
+          author = author-there;
           number-least = h .line .number-least;
           counted = rw (author-at row used-least) at (h .line .counted);
         }

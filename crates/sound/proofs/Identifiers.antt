@@ -10,7 +10,8 @@ use Rattle.position.specs.Positions.{identifier, pad, authorOf}
 use Rattle.rows.specs.Numbers.{numAt}
 use Rattle.script.specs.Lines.{usedOf, identifiersOf}
 use Rattle.script.proofs.Identifiers.{identifiers-length, identifier-at}
-use Rattle.sound.specs.Steps.{Upto, SlotFits, authorByte}
+use Rattle.rows.specs.Rows.{Upto}
+use Rattle.sound.specs.Steps.{SlotFits, authorByte}
 
 -- the identifier that starts at byte j of the eight
 abbrev pub slotAt : List ℕ → ℕ → Identifier

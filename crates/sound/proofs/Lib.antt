@@ -1,4 +1,3 @@
-pub mod Answers
 pub mod Compared
 pub mod Decided
 pub mod FitRow

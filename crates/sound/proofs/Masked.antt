@@ -1,49 +1,23 @@
--- Faults or-ed together: what a turn of a loop adds, and what a mask lets through.
+-- What a mask lets through.
 -- Assumes nothing.
 use Prim.Native.Nat.{ℕ, zero, suc, _+_, _-_, _%_, _≤_, _<_}
 use native.Mathlib.Omega.{arith}
-use native.Mathlib.Nat.{eq-or-lt-of-le, le-of-suc-le-suc, add-zero, zero-add, add-suc, suc-add}
+use native.Mathlib.Nat.{le-of-suc-le-suc, add-zero, zero-add, add-suc, suc-add}
 use native.Mathlib.Decide.{decLt}
 use mathlib.Core.Path.{_≡_, refl, sym, ap, subst, _∙_}
 use mathlib.Core.Bool.{Bool, true, false, cond, _&&_}
-use mathlib.Core.Logic.{_↔_, by-cases, ⊎-elim}
+use mathlib.Core.Logic.{_↔_, by-cases}
 use mathlib.Core.List.{List, [], _∷_}
-use lib.Bits.{bitAnd, bitOr, or-add-and, and-le-l, and-le-r, and-mask, and-zero-r}
+use lib.Bits.{bitAnd, and-mask, and-zero-r}
 use borrow.Author.Tests.{eqb-true, eqb-false, ltb-true, ltb-false}
 use lib.Dec.{eqb, ltb}
 use lib.ListN.{getD, replicate, getD-replicate, List·getD-append}
 use lib.Seq.{getD-append-add}
-use Rattle.sound.specs.Steps.{Upto, behindMask, startMask}
-
-pub or-clear : (a b : ℕ) → (bitOr a b ≡ 0) ↔ ((a ≡ 0) × (b ≡ 0))
-or-clear a b = (
-  λ h. (omega (arith, or-add-and a b, and-le-l a b, and-le-r a b), omega (arith, or-add-and a b, and-le-l a b, and-le-r a b)),
-  λ h. omega (arith, or-add-and a b, h .0, h .1),
-)
+use Rattle.sound.specs.Steps.{behindMask, startMask}
 
 -- a mask of 255 lets a byte through, a mask of 0 nothing
 pub let-through : (b : ℕ) → b < 256 → bitAnd b 255 ≡ b
 let-through b small = and-mask b 8 ∙ omega arith
-
--- before the first turn
-pub none : {P : ℕ → Type 0} → _≡_ {A = ℕ} 0 0 ↔ Upto 0 P
-none {P} = (λ _ j h. absurd (omega arith), λ _. refl)
-
--- one more of what holds at each
-pub one-more : {P : ℕ → Type 0} → (j : ℕ) → Upto j P → P j → Upto (j + 1) P
-one-more {P} j so-far here i less =
-    ⊎-elim (λ (q : i ≡ j). subst P (sym q) here) (λ (l : i < j). so-far i l) (eq-or-lt-of-le (omega arith))
-
--- one turn more
-pub more : {P : ℕ → Type 0} → (faults fault j : ℕ) → (faults ≡ 0) ↔ Upto j P → (fault ≡ 0) ↔ P j → (bitOr faults fault ≡ 0) ↔ Upto (j + 1) P
-more {P} faults fault j so-far here = (
-  λ h. let clear = or-clear faults fault .0 h in one-more j (so-far .0 (clear .0)) (here .0 (clear .1)),
-  λ every. or-clear faults fault .1 (so-far .1 (λ i l. every i (omega arith)), here .1 (every j (omega arith))),
-)
-
--- after the last turn
-pub all : {P : ℕ → Type 0} → (faults j n : ℕ) → j ≡ n → (faults ≡ 0) ↔ Upto j P → (faults ≡ 0) ↔ Upto n P
-all {P} faults j n end so-far = subst (λ (k : ℕ). (faults ≡ 0) ↔ Upto k P) end so-far
 
 -- what is masked by the places behind n
 pub behind : (mask : List ℕ) → mask ≡ behindMask → (b n j : ℕ) → b < 256 → n ≤ 48 → j < 48 → (bitAnd b (getD mask (48 - n + j) 0) ≡ 0) ↔ (n ≤ j → b ≡ 0)

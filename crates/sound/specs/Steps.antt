@@ -8,12 +8,9 @@ use mathlib.Core.List.{List, [], _∷_, _++_}
 use lib.ListN.{length, getD, replicate}
 use Rattle.position.specs.Positions.{Proper, identifier}
 use Rattle.rows.specs.Numbers.{numAt}
+use Rattle.rows.specs.Rows.{Upto, AllZero}
 use Rattle.script.specs.Lines.{tableSize, usedOf, numberOf, textLengthOf, rowAt}
 use Rattle.script.specs.Records.{countOf}
-
--- at each of the first n
-abbrev pub Upto : ℕ → (ℕ → Type 0) → Type 0
-Upto n P = (j : ℕ) → j < n → P j
 
 -- The masks: 48 zeros and 48 of 255, so that what stands from 48 - n on is zero before place n and
 -- 255 from it on; and 255 where one of the eight identifiers starts.
@@ -76,10 +73,6 @@ pub record Fits (counts table : List ℕ) (i : ℕ) : Type 0 where
 -- the first integer of the last row; those of the rows before it are not above it, since rows rise
 abbrev pub LastFits : ℕ → List ℕ → Type 0
 LastFits rows table = 1 ≤ rows → numAt 2 (rowAt table (rows - 1)) 1 ≤ 65534
-
--- bytes that are all zero
-abbrev pub AllZero : List ℕ → Type 0
-AllZero s = Upto (length s) (λ j. getD s j 0 ≡ 0)
 
 -- all that the scan decides of a table
 pub record TableFits (rows : ℕ) (counts table : List ℕ) : Type 0 where

@@ -3,12 +3,12 @@
 // turns are lanes of a vector.
 use rows::moves::clear;
 ghost use mathlib.Core.Path.{_≡_};
-ghost use mathlib.Core.Bool.{true};
 ghost use mathlib.Core.Logic.{_↔_};
 ghost use Prim.Native.Nat.{_+_, _*_, _≤_};
 ghost use lib.ListN.{length};
 ghost use Rattle.position.specs.Positions.{Proper, identifier};
-ghost use Rattle.sound.specs.Steps.{Upto, SlotFits, TextFits, AllZero, behindMask, startMask};
+ghost use Rattle.rows.specs.Rows.{Upto};
+ghost use Rattle.sound.specs.Steps.{SlotFits, TextFits, behindMask, startMask};
 
 // 48 zeros and 48 of 255: read from place 48 - n on, it masks out what stands before place n.
 pub(crate) fn behind_mask() -> [u8; 96]
@@ -71,17 +71,4 @@ pub(crate) fn text_faults(row: &[u8], used: usize, behind: &[u8; 96]) -> u8
         j = j + 1;
     }
     faults
-}
-
-// Whether all bytes are zero.
-pub fn all_zero(s: &[u8]) -> bool
-    ensures { λ b. ⌜ (b ≡ true) ↔ AllZero (now (s .entry)) ⌝ }
-{
-    let mut faults = 0u8;
-    let mut j = 0;
-    while j < s.len() {
-        faults = faults | s[j];
-        j = j + 1;
-    }
-    faults == 0
 }

@@ -8,20 +8,17 @@
 // of their 24 bytes: three words are compared, and carried on to the next row. And the faults
 // of a row's identifiers, and of its text, are or-ed together and tested once.
 use crate::scan::table_fits;
-use script::LAST_NUMBER;
 use script::ROWS;
 use script::Replica;
 use script::SITES;
 use script::TABLE;
+use script::record::counts_fit;
 ghost use mathlib.Core.Path.{_≡_};
 ghost use mathlib.Core.Bool.{true};
 ghost use mathlib.Core.Logic.{_↔_};
-ghost use lib.ListN.{getD};
-ghost use Prim.Native.Nat.{_≤_};
 ghost use Rattle.script.specs.Sound.{Sound, SoundRecord};
-ghost use Rattle.sound.specs.Steps.{Upto};
 
-pub mod faults;
+mod faults;
 mod scan;
 
 // Whether this record and this table are sound, for any values of both.
@@ -54,18 +51,4 @@ fn record_fits(r: Replica) -> bool
     }
     let counts = r.counts;
     counts_fit(counts)
-}
-
-// Every count is at most 1,000,000.
-fn counts_fit(counts: [u32; SITES]) -> bool
-    ensures { λ b. ⌜ (b ≡ true) ↔ Upto 16 (λ i. getD counts i 0 ≤ 1000000) ⌝ }
-{
-    let mut i = 0;
-    while i < SITES {
-        if LAST_NUMBER < counts[i] {
-            return false;
-        }
-        i = i + 1;
-    }
-    true
 }

@@ -1,10 +1,10 @@
 // One pass over the table: each row by itself, its words against those of the row before, then the
 // rows that are not in use.
-use crate::faults::all_zero;
 use crate::faults::behind_mask;
 use crate::faults::slot_faults;
 use crate::faults::start_mask;
 use crate::faults::text_faults;
+use rows::moves::all_zero;
 use rows::numbers::number_2;
 use rows::numbers::number_4;
 use rows::numbers::number_8;
@@ -16,7 +16,8 @@ ghost use mathlib.Core.Logic.{_↔_};
 ghost use Prim.Native.Nat.{_≤_};
 ghost use lib.ListN.{length};
 ghost use Rattle.script.specs.Lines.{tableSize};
-ghost use Rattle.sound.specs.Steps.{Upto, Fits, LastFits, RowFits, Rises, TableFits, behindMask, startMask};
+ghost use Rattle.rows.specs.Rows.{Upto};
+ghost use Rattle.sound.specs.Steps.{Fits, LastFits, RowFits, Rises, TableFits, behindMask, startMask};
 
 // The table of a record whose ranges hold.
 pub(crate) fn table_fits(rows: usize, counts: [u32; SITES], table: &[u8]) -> bool

@@ -1,7 +1,7 @@
 -- `record_fits` meets its contract: each refusal is one range that fails.
 -- Assumes nothing.
 use native.Mathlib.Omega.{arith}
-use Rattle.sound.proofs.Answers.{refused, means}
+use Rattle.rows.proofs.Answers.{refused, means}
 use Rattle.sound.proofs.record_fits.Statement.{statement}
 use Rattle.sound.proofs.record_fits.Tie as tie
 

@@ -1,7 +1,7 @@
 -- `sound` meets its contract: past the record's ranges the table decides.
 -- Assumes nothing.
 use native.Mathlib.Omega.{arith}
-use Rattle.sound.proofs.Answers.{refused, no-answer, means}
+use Rattle.rows.proofs.Answers.{refused, no-answer, means}
 use Rattle.script.specs.Sound.{SoundRecord}
 use Rattle.sound.proofs.Decided.{decided}
 use Rattle.sound.proofs.sound.Statement.{statement}

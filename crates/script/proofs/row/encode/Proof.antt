@@ -1,37 +1,22 @@
 -- `encode` meets its contract: its parts, written one behind the other over zeros, are the line's row.
 -- Assumes nothing.
-use Prim.Native.Nat.{ℕ, _+_, _≤_}
+use Prim.Native.Nat.{ℕ, _≤_}
 use native.Mathlib.Omega.{arith}
 use borrow.Author.Needs.{needs}
-use borrow.Rule.Slice.PartMut.{midOf, putMid}
 use mathlib.Core.Path.{_≡_, refl, ap, _∙_}
-use mathlib.Core.List.{List, [], _++_, append-assoc, append-nil}
-use lib.ListN.{length, take, drop, length-append, length-drop, length-replicate, drop-of-length-le}
-use lib.Seq.{take-all, drop-drop}
+use mathlib.Core.List.{List, _++_, append-assoc}
+use lib.ListN.{length, length-append, length-replicate}
 use Rattle.position.specs.Positions.{idsOf}
 use Rattle.position.proofs.Ids.{length-mapped, ids-length}
 use Rattle.rows.specs.Numbers.{bytesOf}
 use Rattle.rows.specs.Rows.{filled, flat, slotsOf, written}
 use Rattle.rows.proofs.Digits.{bytes-length}
 use Rattle.rows.proofs.Slots.{zeros, filled-length, flat-length}
-use Rattle.rows.proofs.Bytes.{written-both, all-written, filled-written}
+use Rattle.rows.proofs.Bytes.{written-both, copied-written, all-written, filled-written}
 use Rattle.script.specs.Lines.{Line, encodeIdentifier, encodeRow}
 use Rattle.script.proofs.Encoded.{identifier-length}
 use Rattle.script.proofs.row.encode.Statement.{statement}
 use Rattle.script.proofs.row.encode.Tie as tie
-
--- bytes copied to the front of a part that has room for them are written there
-copied-written : (at k : ℕ) (bytes s part : List ℕ) → length s ≡ at + k → length bytes ≤ k
-    → let lent = midOf at k s in part ≡ take (length lent) bytes ++ drop (length bytes) lent
-    → putMid at k s part ≡ written at bytes s
-unfolding written
-copied-written at k bytes s part size room e =
-    let left : length (drop at s) ≡ k = omega (arith, length-drop at s) in
-    let lent : take k (drop at s) ≡ drop at s = take-all k (drop at s) (omega arith) in
-    let all : take (length (drop at s)) bytes ≡ bytes = take-all (length (drop at s)) bytes (omega arith) in
-    let short : length (drop at s) ≤ k = omega arith in
-    let none : drop k (drop at s) ≡ [] = drop-of-length-le (drop at s) short in
-    rw (e, lent, all, drop-drop (length bytes) at s, none, append-nil)
 
 -- what is written behind the first bytes of a row of zeros
 written-next : (n at : ℕ) (front bytes : List ℕ) → length front ≡ at → at ≤ n

@@ -14,7 +14,7 @@ use lib.Bits.{bitOr, bitXor}
 use lib.Dec.{eqb, ltb}
 use Rattle.position.specs.declared.Identifier.{Identifier}
 use Rattle.position.specs.Positions.{Proper, identifier, pad}
-use Rattle.sound.proofs.Masked.{or-clear}
+use Rattle.rows.proofs.Turns.{or-clear}
 use Rattle.sound.proofs.faults.slot_fault.Statement.{statement}
 use Rattle.sound.proofs.faults.slot_fault.Tie as tie
 

@@ -7,7 +7,7 @@ use mathlib.Core.List.{List}
 use lib.ListN.{length-take, length-drop}
 use Rattle.rows.specs.Numbers.{numAt}
 use Rattle.rows.proofs.Bytes.{rest-lent}
-use Rattle.sound.proofs.Answers.{accepted, means, at-most}
+use Rattle.rows.proofs.Answers.{accepted, means, at-most}
 use Rattle.sound.proofs.scan.last_fits.Statement.{statement}
 use Rattle.sound.proofs.scan.last_fits.Tie as tie
 

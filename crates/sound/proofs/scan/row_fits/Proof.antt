@@ -4,7 +4,7 @@
 use Prim.Native.Nat.{_-_, _*_, _≤_}
 use native.Mathlib.Omega.{arith}
 use lib.ListN.{getD}
-use Rattle.sound.proofs.Answers.{refused, means, at-most}
+use Rattle.rows.proofs.Answers.{refused, means, at-most}
 use Rattle.sound.proofs.Identifiers.{author-most}
 use Rattle.sound.proofs.scan.row_fits.Statement.{statement}
 use Rattle.sound.proofs.scan.row_fits.Tie as tie

@@ -4,8 +4,8 @@ use Prim.Native.Nat.{_*_}
 use native.Mathlib.Omega.{arith}
 use mathlib.Core.Path.{sym, subst}
 use Rattle.rows.proofs.Bytes.{rest-lent}
-use Rattle.sound.specs.Steps.{AllZero}
-use Rattle.sound.proofs.Answers.{refused, no-answer, means}
+use Rattle.rows.specs.Rows.{AllZero}
+use Rattle.rows.proofs.Answers.{refused, no-answer, means}
 use Rattle.sound.proofs.scan.table_fits.Statement.{statement}
 use Rattle.sound.proofs.scan.table_fits.Tie as tie
 

@@ -1,0 +1,6 @@
+pub mod Decided
+pub mod Entries
+pub mod Parts
+pub mod Places
+pub mod Sections
+pub mod Sizes

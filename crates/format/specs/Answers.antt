@@ -1,0 +1,12 @@
+-- Answers (01, 'Answer numbers'): a call answers the number of the first check that fails, in its order
+-- of checks, or 0.
+-- Assumes nothing.
+use Prim.Native.Nat.{ℕ}
+use mathlib.Core.Bool.{Bool, true, false}
+use mathlib.Core.List.{List, [], _∷_}
+
+-- the number of the first ground that holds, or 0
+unfoldable pub firstOf : List (Bool × ℕ) → ℕ
+firstOf [] = 0
+firstOf ((true, n) ∷ checks) = n
+firstOf ((false, n) ∷ checks) = firstOf checks

@@ -1,0 +1,4 @@
+pub mod Patches
+pub mod WellFormed
+pub mod Steps
+pub mod Answers

@@ -1,0 +1,10 @@
+pub mod Back
+pub mod Composed
+pub mod Counts
+pub mod Placed
+pub mod Repeated
+pub mod RoundTrip
+pub mod Sections
+pub mod Standing
+pub mod Whole
+pub mod Writes

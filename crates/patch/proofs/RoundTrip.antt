@@ -1,0 +1,106 @@
+-- Reading and writing undo each other. What is read has no other bytes that mean it: those used are
+-- exactly `patchBytes` of what was read, and that is well-formed. What is written reads back to the same
+-- patch, text and length, also in front of further bytes.
+-- Assumes nothing.
+use Prim.Native.Nat.{ℕ, _≤_}
+use native.Mathlib.Nat.{zero-add}
+use native.Mathlib.Omega.{arith}
+use mathlib.Core.Path.{_≡_, refl, sym, ap, subst, _∙_}
+use mathlib.Core.Logic.{ite, if-pos, if-neg}
+use mathlib.Core.List.{List, _++_}
+use lib.ListN.{length, take, drop, getD}
+use lib.Seq.{take-at}
+use Rattle.rows.specs.Rows.{Stands, written}
+use Rattle.format.specs.declared.Patch.{Patch}
+use Rattle.format.specs.Patches.{leastSize, mostSize, patchBytes}
+use Rattle.format.specs.WellFormed.{WellFormed}
+use Rattle.format.specs.Steps.{FieldsFit}
+use Rattle.format.proofs.Parts.{fields-agree}
+use Rattle.format.proofs.Sizes.{sizes}
+use Rattle.patch.specs.declared.read.Reading.{Reading}
+use Rattle.patch.specs.Read.{refused, FirstIs, first-is?, readingOf, patchIn, textIn, lineIn, readFirst}
+use Rattle.patch.specs.Write.{Writing, writePatch}
+use Rattle.patch.proofs.Back.{patch-back, beside-back}
+use Rattle.patch.proofs.Standing.{stands-whole}
+use Rattle.patch.proofs.Writes.{written-done, answered}
+
+-- A well-formed patch whose bytes stand at the front is what is read.
+
+pub reads-back : (p : Patch) (text rest : List ℕ) → WellFormed p text → readFirst (patchBytes p text ++ rest) ≡ readingOf p text
+unfolding readFirst
+reads-back p text rest good =
+    let s = patchBytes p text ++ rest in
+    let fits : FieldsFit p text = fields-agree p text .0 good .0 in
+    let stands : Stands (patchBytes p text) s = take-at (patchBytes p text) rest (length (patchBytes p text)) refl in
+    rw (patch-back p text rest fits, beside-back p text rest fits)
+    (if-pos (first-is? s p text) (good, stands) (readingOf p text) refused)
+
+pub is-read : (s : List ℕ) (p : Patch) (text : List ℕ) → FirstIs s p text → readFirst s ≡ readingOf p text
+is-read s p text (good, stands) =
+    subst (λ (l : List ℕ). readFirst l ≡ readingOf p text) (stands-whole (patchBytes p text) s stands)
+    (reads-back p text (drop (length (patchBytes p text)) s) good)
+
+-- Where no well-formed patch's bytes stand, nothing is read.
+pub not-read : (s : List ℕ) → ((p : Patch) (text : List ℕ) → FirstIs s p text → ⊥) → readFirst s ≡ refused
+unfolding readFirst
+not-read s none-there =
+    let p = patchIn s in
+    let text = textIn (getD s 0 0) (lineIn s) in
+    if-neg (first-is? s p text) (none-there p text) (readingOf p text) refused
+
+-- What is read.
+
+pub record IsRead (s : List ℕ) (r : Reading) : Type 0 where
+  pub well-formed : WellFormed (r .patch) (r .text)
+  pub used : r .used ≡ length (patchBytes (r .patch) (r .text))
+  pub bytes : take (r .used) s ≡ patchBytes (r .patch) (r .text)
+
+pub what-is-read : (s : List ℕ) → 1 ≤ readFirst s .used → IsRead s (readFirst s)
+unfolding readFirst
+what-is-read s some = by (patchIn s) (textIn (getD s 0 0) (lineIn s)) (first-is? s (patchIn s) (textIn (getD s 0 0) (lineIn s))) some
+  where
+    by : (p : Patch) (text : List ℕ) (first : Dec (FirstIs s p text)) → 1 ≤ ite first (readingOf p text) refused .used → IsRead s (ite first (readingOf p text) refused)
+    by p text (yes (good, stands)) some = record { well-formed = good; used = refl; bytes = stands }
+    by p text (no wrong) some = absurd (omega arith)
+
+-- two runs of bytes that read as one patch begin with the same bytes
+pub one-encoding : (s t : List ℕ) → 1 ≤ readFirst s .used → readFirst s ≡ readFirst t → take (readFirst s .used) s ≡ take (readFirst t .used) t
+one-encoding s t some same =
+    what-is-read s some .bytes
+    ∙ ap (λ (r : Reading). patchBytes (r .patch) (r .text)) same
+    ∙ sym (what-is-read t (subst (λ (r : Reading). 1 ≤ r .used) same some) .bytes)
+
+-- What is written.
+
+-- stands in front of the rest of the buffer
+written-front : (bytes s : List ℕ) → written 0 bytes s ≡ bytes ++ drop (length bytes) s
+unfolding written
+written-front bytes s = ap (λ (n : ℕ). bytes ++ drop n s) (zero-add (length bytes))
+
+-- reads back to the same patch, text and length, whatever stands in the buffer behind it
+pub written-reads : (p : Patch) (text buffer : List ℕ) → writePatch p text buffer .answer ≡ 0
+    → readFirst (writePatch p text buffer .buffer) ≡ record { patch = p; text = text; used = writePatch p text buffer .length }
+written-reads p text buffer zero-answered =
+    let told = answered p text buffer zero-answered in
+    let good = told .1 in
+    let done = written-done p text buffer (told .0) good in
+    ap (λ (v : Writing). readFirst (v .buffer)) done
+    ∙ ap readFirst (written-front (patchBytes p text) buffer)
+    ∙ reads-back p text (drop (length (patchBytes p text)) buffer) good
+    ∙ ap (λ (v : Writing). record { patch = p; text = text; used = v .length }) (sym done)
+
+-- and has 12 to 161 bytes
+pub written-sizes : (p : Patch) (text buffer : List ℕ) → writePatch p text buffer .answer ≡ 0
+    → (leastSize ≤ writePatch p text buffer .length) × (writePatch p text buffer .length ≤ mostSize)
+written-sizes p text buffer zero-answered =
+    let told = answered p text buffer zero-answered in
+    rw (written-done p text buffer (told .0) (told .1)) (sizes p text (told .1))
+
+-- What was read is written again, as the bytes that it was read from: 2 is the answer only to a patch
+-- that no bytes would read as.
+pub read-written : (s buffer : List ℕ) → 1 ≤ readFirst s .used → mostSize ≤ length buffer
+    → writePatch (readFirst s .patch) (readFirst s .text) buffer
+    ≡ record { answer = 0; length = readFirst s .used; buffer = written 0 (take (readFirst s .used) s) buffer }
+read-written s buffer some room =
+    let r = what-is-read s some in
+    rw (written-done (readFirst s .patch) (readFirst s .text) buffer room (r .well-formed), r .bytes, r .used)
