@@ -6,10 +6,13 @@ use Prim.Native.Nat.{ℕ, _≤_}
 use native.Mathlib.Nat.{zero-add}
 use native.Mathlib.Omega.{arith}
 use mathlib.Core.Path.{_≡_, refl, sym, ap, subst, _∙_}
+use mathlib.Core.Bool.{Bool, true, false, cond}
 use mathlib.Core.Logic.{ite, if-pos, if-neg}
 use mathlib.Core.List.{List, _++_}
 use lib.ListN.{length, take, drop, getD}
-use lib.Seq.{take-at}
+use lib.Seq.{take-at, take-all}
+use lib.Dec.{eqb}
+use borrow.Author.Tests.{eqb-true, eq-eqb}
 use Rattle.rows.specs.Rows.{Stands, written}
 use Rattle.format.specs.declared.Patch.{Patch}
 use Rattle.format.specs.Patches.{leastSize, mostSize, patchBytes}
@@ -18,7 +21,7 @@ use Rattle.format.specs.Steps.{FieldsFit}
 use Rattle.format.proofs.Parts.{fields-agree}
 use Rattle.format.proofs.Sizes.{sizes}
 use Rattle.patch.specs.declared.read.Reading.{Reading}
-use Rattle.patch.specs.Read.{refused, FirstIs, first-is?, readingOf, patchIn, textIn, lineIn, readFirst}
+use Rattle.patch.specs.Read.{refused, FirstIs, first-is?, readingOf, patchIn, textIn, lineIn, readFirst, readOne}
 use Rattle.patch.specs.Write.{Writing, writePatch}
 use Rattle.patch.proofs.Back.{patch-back, beside-back}
 use Rattle.patch.proofs.Standing.{stands-whole}
@@ -57,18 +60,43 @@ pub record IsRead (s : List ℕ) (r : Reading) : Type 0 where
 
 pub what-is-read : (s : List ℕ) → 1 ≤ readFirst s .used → IsRead s (readFirst s)
 unfolding readFirst
-what-is-read s some = by (patchIn s) (textIn (getD s 0 0) (lineIn s)) (first-is? s (patchIn s) (textIn (getD s 0 0) (lineIn s))) some
+what-is-read s some =
+    let p = patchIn s in
+    let text = textIn (getD s 0 0) (lineIn s) in
+    by p text (first-is? s p text) some
   where
-    by : (p : Patch) (text : List ℕ) (first : Dec (FirstIs s p text)) → 1 ≤ ite first (readingOf p text) refused .used → IsRead s (ite first (readingOf p text) refused)
+    by : (p : Patch) (text : List ℕ) (first : Dec (FirstIs s p text)) → 1 ≤ ite first (readingOf p text) refused .used
+        → IsRead s (ite first (readingOf p text) refused)
     by p text (yes (good, stands)) some = record { well-formed = good; used = refl; bytes = stands }
     by p text (no wrong) some = absurd (omega arith)
 
--- two runs of bytes that read as one patch begin with the same bytes
-pub one-encoding : (s t : List ℕ) → 1 ≤ readFirst s .used → readFirst s ≡ readFirst t → take (readFirst s .used) s ≡ take (readFirst t .used) t
-one-encoding s t some same =
-    what-is-read s some .bytes
-    ∙ ap (λ (r : Reading). patchBytes (r .patch) (r .text)) same
-    ∙ sym (what-is-read t (subst (λ (r : Reading). 1 ≤ r .used) same some) .bytes)
+-- no other bytes mean it: two runs of bytes that read as one patch begin with the same bytes
+pub one-encoding : (s t : List ℕ) → 1 ≤ readFirst s .used → 1 ≤ readFirst t .used
+    → readFirst s .patch ≡ readFirst t .patch → readFirst s .text ≡ readFirst t .text
+    → take (readFirst s .used) s ≡ take (readFirst t .used) t
+one-encoding s t some-s some-t patches texts =
+    what-is-read s some-s .bytes ∙ (λ d. patchBytes (patches d) (texts d)) ∙ sym (what-is-read t some-t .bytes)
+
+-- Exactly one patch: where one is read, the bytes are its bytes and nothing else.
+
+pub one-is-read : (s : List ℕ) → 1 ≤ readOne s .used
+    → WellFormed (readOne s .patch) (readOne s .text) × (s ≡ patchBytes (readOne s .patch) (readOne s .text))
+unfolding readOne
+one-is-read s some = by (eqb (readFirst s .used) (length s)) refl some
+  where
+    by : (all : Bool) → eqb (readFirst s .used) (length s) ≡ all → 1 ≤ cond all (readFirst s) refused .used
+        → let r = cond all (readFirst s) refused in WellFormed (r .patch) (r .text) × (s ≡ patchBytes (r .patch) (r .text))
+    by true all some =
+        let r = what-is-read s some in
+        (r .well-formed, sym (take-all (readFirst s .used) s (omega (arith, eqb-true (readFirst s .used) (length s) all))) ∙ r .bytes)
+    by false all some = absurd (omega arith)
+
+pub one-reads-back : (p : Patch) (text : List ℕ) → WellFormed p text → readOne (patchBytes p text) ≡ readingOf p text
+unfolding readOne
+one-reads-back p text good =
+    let bytes = patchBytes p text in
+    let first : readFirst bytes ≡ readingOf p text = is-read bytes p text (good, take-all (length bytes) bytes (omega arith)) in
+    rw (first, eq-eqb (length bytes) (length bytes) refl)
 
 -- What is written.
 
