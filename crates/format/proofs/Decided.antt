@@ -1,7 +1,8 @@
--- Whether a patch is well-formed is decided.
+-- Whether a patch is well-formed is decided, section by section.
 -- Assumes nothing.
 use Prim.Native.Nat.{ℕ, _-_}
 use native.Mathlib.Decide.{ℕ-discrete, decLe}
+use mathlib.Core.Logic.{Dec·and}
 use mathlib.Core.List.{List}
 use lib.ListN.{length, getD}
 use Rattle.position.specs.Positions.{pad, idsOf, authorOf}
@@ -10,54 +11,59 @@ use Rattle.script.specs.Records.{countOf}
 use Rattle.format.specs.declared.Edit.{Edit}
 use Rattle.format.specs.declared.Edit.the-variants.{Insert, Delete}
 use Rattle.format.specs.declared.Patch.{Patch}
-use Rattle.format.specs.WellFormed.{TextFits, EditFits, WellFormed}
+use Rattle.format.specs.WellFormed.{NumberFits, HeadFits, BeforeFits, TextFits, LineFits, EditAgrees, WellFormed}
 
--- whether the bytes beside a patch are 48, zero behind the first n
+number-fits? : (n : ℕ) → Dec (NumberFits n)
+number-fits? n = Dec·and (decLe 1 n) (decLe n 1000000)
+
+head-fits? : (author number : ℕ) → Dec (HeadFits author number)
+head-fits? author number =
+    by-field (decLe 1 author) (λ fits. fits .author-least) λ author-least.
+    by-field (decLe author 16) (λ fits. fits .author-most) λ author-most.
+    by-field (number-fits? number) (λ fits. fits .numbered) λ numbered.
+    yes (record { author-least = author-least; author-most = author-most; numbered = numbered })
+
+before-fits? : (counts : List ℕ) → Dec (BeforeFits counts)
+before-fits? counts =
+    by-field (ℕ-discrete (length counts) 16) (λ fits. fits .size) λ size.
+    by-field (each-below? (λ i. decLe (getD counts i 0) 1000000) 16) (λ fits. fits .most) λ most.
+    yes (record { size = size; most = most })
+
 text-fits? : (n : ℕ) (text : List ℕ) → Dec (TextFits n text)
 text-fits? n text =
     by-field (ℕ-discrete (length text) 48) (λ fits. fits .size) λ size.
     by-field (each-within? (λ j. ℕ-discrete (getD text j 0) 0) n 48) (λ fits. fits .unused) λ unused.
     yes (record { size = size; unused = unused })
 
--- whether an edit is one that the patch may have
-edit-fits? : (p : Patch) (text : List ℕ) (edit : Edit) → Dec (EditFits p text edit)
-edit-fits? p text (Insert n) =
-    by-field (decLe n 48) (λ fits. fits .most) λ most.
-    by-field (text-fits? n text) (λ fits. fits .beside) λ beside.
-    by-field (ℕ-discrete (authorOf (idsOf (p .place))) (p .author)) (λ fits. fits .author) λ author.
-    yes (record { most = most; beside = beside; author = author })
-edit-fits? p text (Delete n) =
-    by-field (decLe 1 n) (λ fits. fits .least) λ least.
-    by-field (text-fits? 0 text) (λ fits. fits .beside) λ beside.
-    by-field (decLe n (countOf (p .before) (authorOf (idsOf (p .place))))) (λ fits. fits .covered) λ covered.
-    yes (record { least = least; beside = beside; covered = covered })
+line-fits? : (edit : Edit) (text : List ℕ) → Dec (LineFits edit text)
+line-fits? (Insert n) text = Dec·and (decLe n 48) (text-fits? n text)
+line-fits? (Delete n) text = Dec·and (number-fits? n) (text-fits? 0 text)
 
--- whether a patch with this text beside it is well-formed
+edit-agrees? : (p : Patch) (edit : Edit) → Dec (EditAgrees p edit)
+edit-agrees? p (Insert n) = ℕ-discrete (authorOf (idsOf (p .place))) (p .author)
+edit-agrees? p (Delete n) =
+    let site = authorOf (idsOf (p .place)) in
+    Dec·and (decLe 1 site) (decLe n (countOf (p .before) site))
+
 pub well-formed? : (p : Patch) (text : List ℕ) → Dec (WellFormed p text)
 well-formed? p text =
-    by-field (decLe 1 (p .author)) (λ fits. fits .author-least) λ author-least.
-    by-field (decLe (p .author) 16) (λ fits. fits .author-most) λ author-most.
-    by-field (decLe 1 (p .number)) (λ fits. fits .number-least) λ number-least.
-    by-field (decLe (p .number) 1000000) (λ fits. fits .number-most) λ number-most.
-    by-field (ℕ-discrete (length (p .before)) 16) (λ fits. fits .counts) λ counts.
-    by-field (each-below? (λ i. decLe (getD (p .before) i 0) 1000000) 16) (λ fits. fits .count-most) λ count-most.
+    by-field (head-fits? (p .author) (p .number)) (λ fits. fits .head) λ head.
+    by-field (before-fits? (p .before)) (λ fits. fits .before) λ before.
     by-field (ℕ-discrete (countOf (p .before) (p .author)) (p .number - 1)) (λ fits. fits .own-entry) λ own-entry.
     by-field (line-position? (idsOf (p .place))) (λ fits. fits .place) λ place.
     by-field (decLe (p .place .used) 8) (λ fits. fits .used) λ used.
     by-field (ℕ-discrete (length (p .place .ids)) 8) (λ fits. fits .identifiers) λ identifiers.
     by-field (each-within? (λ j. identifier? (getD (p .place .ids) j pad) pad) (p .place .used) 8) (λ fits. fits .unused) λ unused.
-    by-field (edit-fits? p text (p .edit)) (λ fits. fits .edit) λ edit.
+    by-field (line-fits? (p .edit) text) (λ fits. fits .line) λ line.
+    by-field (edit-agrees? p (p .edit)) (λ fits. fits .edit) λ edit.
     yes (record {
-      author-least = author-least;
-      author-most = author-most;
-      number-least = number-least;
-      number-most = number-most;
-      counts = counts;
-      count-most = count-most;
+      head = head;
+      before = before;
       own-entry = own-entry;
       place = place;
       used = used;
       identifiers = identifiers;
       unused = unused;
+      line = line;
       edit = edit;
     })

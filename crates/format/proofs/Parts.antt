@@ -3,74 +3,38 @@
 -- Assumes nothing.
 use Prim.Native.Nat.{ℕ, _-_, _≤_, _<_}
 use native.Mathlib.Omega.{arith}
-use native.Mathlib.Decide.{decLt}
 use mathlib.Core.Path.{_≡_, sym, subst}
-use mathlib.Core.Logic.{_↔_, by-cases}
+use mathlib.Core.Logic.{_↔_}
 use mathlib.Core.List.{List}
-use lib.Dec.{ltb}
 use lib.ListN.{length, getD}
-use borrow.Author.Tests.{lt-ltb, le-ltb}
 use Rattle.position.specs.Positions.{pad, idsOf, authorOf, Proper, LinePosition}
-use Rattle.position.proofs.Authors.{ends-unpadded, author-least, author-most}
+use Rattle.position.proofs.Authors.{ends-unpadded}
 use Rattle.position.proofs.Ids.{ids-length, next-id}
 use Rattle.format.specs.declared.Edit.{Edit}
 use Rattle.format.specs.declared.Edit.the-variants.{Insert, Delete}
 use Rattle.format.specs.declared.Patch.{Patch}
-use Rattle.format.specs.WellFormed.{EditFits, WellFormed}
-use Rattle.format.specs.Steps.{SlotFits, PlaceFits, LineFits, FieldsFit, EditAgrees, Agrees}
-use Rattle.format.proofs.Places.{ids-used, id-at, used-proper, unused-pad}
+use Rattle.format.specs.WellFormed.{WellFormed, EditAgrees}
+use Rattle.format.specs.Steps.{PlaceFits, FieldsFit, Agrees}
+use Rattle.format.proofs.Places.{slot-fits, ids-used, id-at, used-proper, unused-pad}
 
 module _ (p : Patch) (text : List ℕ) where
-  -- What is well-formed fits and agrees.
-  module _ (h : WellFormed p text) where
-    -- a used identifier is proper, an unused one the pad
-    slot-fits : (k : ℕ) → k < 8 → SlotFits (getD (p .place .ids) k pad) (ltb k (p .place .used))
-    slot-fits k below =
-        let used = p .place .used in
-        let fits = SlotFits (getD (p .place .ids) k pad) in
-        by-cases (decLt k used)
-        (λ inside.
-        let counted : k < length (idsOf (p .place)) = omega (arith, ids-length (p .place) (h .identifiers)) in
-        subst fits (sym (lt-ltb k used inside)) (subst Proper (next-id (p .place) k counted) (h .place .proper k counted)))
-        (λ outside.
-        let from : used ≤ k = omega arith in
-        subst fits (sym (le-ltb k used from)) (h .unused k from below))
+  -- the place of a well-formed patch fits by itself
+  place-fits : WellFormed p text → PlaceFits (p .place)
+  place-fits h =
+      let counted = ids-length (p .place) (h .identifiers) in
+      record {
+        least = omega (arith, h .place .least);
+        most = h .used;
+        size = h .identifiers;
+        slot = λ k below.
+            slot-fits (getD (p .place .ids) k pad) k (p .place .used)
+            (λ used.
+            let inside : k < length (idsOf (p .place)) = omega arith in
+            subst Proper (next-id (p .place) k inside) (h .place .proper k inside))
+            (λ from. h .unused k from below);
+      }
 
-    place-fits : PlaceFits (p .place)
-    place-fits =
-        record {
-          least = omega (arith, h .place .least, ids-length (p .place) (h .identifiers));
-          most = h .used;
-          size = h .identifiers;
-          slot = slot-fits;
-        }
-
-    -- a line struck has a patch's number: one of the counts is not below it
-    line-fits : (e : Edit) → EditFits p text e → LineFits e text
-    line-fits (Insert n) fits = (fits .most, fits .beside)
-    line-fits (Delete n) fits =
-        let site = authorOf (idsOf (p .place)) in
-        let inside : site - 1 < 16 = omega (arith, author-most (idsOf (p .place)) (h .place)) in
-        ((fits .least, omega (arith, fits .covered, h .count-most (site - 1) inside)), fits .beside)
-
-    -- the edit asks of the last site what it may ask
-    edit-agrees : (e : Edit) → EditFits p text e → EditAgrees p e
-    edit-agrees (Insert n) fits = fits .author
-    edit-agrees (Delete n) fits = (author-least (idsOf (p .place)) (h .place), fits .covered)
-
-    fields-fit : FieldsFit p text
-    fields-fit =
-        record {
-          head = record { author-least = h .author-least; author-most = h .author-most; numbered = (h .number-least, h .number-most) };
-          before = record { size = h .counts; most = h .count-most };
-          place = place-fits;
-          line = line-fits (p .edit) (h .edit);
-        }
-
-    agrees-with : Agrees p
-    agrees-with = record { own-entry = h .own-entry; first = h .place .first; edit = edit-agrees (p .edit) (h .edit) }
-
-  -- What fits and agrees is well-formed.
+  -- The place of a patch that fits and agrees is a line's position.
   module _ (fits : FieldsFit p text) (agrees : Agrees p) where
     -- the place ends in a site: the author's, or one that Before counts
     site-least : (e : Edit) → EditAgrees p e → 1 ≤ authorOf (idsOf (p .place))
@@ -91,28 +55,24 @@ module _ (p : Patch) (text : List ℕ) where
           first = agrees .first;
         }
 
-    -- the edit by itself and against the place
-    edit-fits : (e : Edit) → LineFits e text → EditAgrees p e → EditFits p text e
-    edit-fits (Insert n) line edit = record { most = line .0; beside = line .1; author = edit }
-    edit-fits (Delete n) line edit = record { least = line .0 .0; beside = line .1; covered = edit .1 }
-
-    well-formed : WellFormed p text
-    well-formed =
+  -- the two parts are the whole
+  pub fields-agree : WellFormed p text ↔ (FieldsFit p text × Agrees p)
+  fields-agree = (
+    λ h. (
+      record { head = h .head; before = h .before; place = place-fits h; line = h .line },
+      record { own-entry = h .own-entry; first = h .place .first; edit = h .edit },
+    ),
+    λ parts.
+        let fits = parts .0 in
         record {
-          author-least = fits .head .author-least;
-          author-most = fits .head .author-most;
-          number-least = fits .head .numbered .0;
-          number-most = fits .head .numbered .1;
-          counts = fits .before .size;
-          count-most = fits .before .most;
-          own-entry = agrees .own-entry;
-          place = line-position;
+          head = fits .head;
+          before = fits .before;
+          own-entry = parts .1 .own-entry;
+          place = line-position fits (parts .1);
           used = fits .place .most;
           identifiers = fits .place .size;
           unused = unused-pad (p .place) (fits .place);
-          edit = edit-fits (p .edit) (fits .line) (agrees .edit);
-        }
-
-  -- the two parts are the whole
-  pub fields-agree : WellFormed p text ↔ (FieldsFit p text × Agrees p)
-  fields-agree = (λ h. (fields-fit h, agrees-with h), λ parts. well-formed (parts .0) (parts .1))
+          line = fits .line;
+          edit = parts .1 .edit;
+        },
+  )

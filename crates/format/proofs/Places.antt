@@ -2,14 +2,27 @@
 -- behind them.
 -- Assumes nothing.
 use Prim.Native.Nat.{ℕ, _-_, _≤_, _<_}
+use native.Mathlib.Decide.{decLt}
 use native.Mathlib.Omega.{arith}
-use mathlib.Core.Path.{_≡_, ap, subst, _∙_}
+use mathlib.Core.Path.{_≡_, sym, ap, subst, _∙_}
+use mathlib.Core.Logic.{by-cases}
+use lib.Dec.{ltb}
 use lib.ListN.{length, getD}
 use borrow.Author.Tests.{lt-ltb, le-ltb}
+use Rattle.position.specs.declared.Identifier.{Identifier}
 use Rattle.position.specs.declared.Position.{Position}
 use Rattle.position.specs.Positions.{pad, idsOf, lastOf, Proper}
 use Rattle.position.proofs.Ids.{ids-length, next-id}
 use Rattle.format.specs.Steps.{SlotFits, PlaceFits}
+
+-- a slot fits: proper where it is used, the pad where it is not
+pub slot-fits : (i : Identifier) (k used : ℕ) → (k < used → Proper i) → (used ≤ k → i ≡ pad) → SlotFits i (ltb k used)
+slot-fits i k used proper unused =
+    by-cases (decLt k used)
+    (λ inside. subst (SlotFits i) (sym (lt-ltb k used inside)) (proper inside))
+    (λ outside.
+    let from : used ≤ k = omega arith in
+    subst (SlotFits i) (sym (le-ltb k used from)) (unused from))
 
 module _ (p : Position) (fits : PlaceFits p) where
   -- it has as many identifiers as are used

@@ -1,6 +1,6 @@
 -- The sections of a patch: one written, its count byte first or last, and the most bytes that Before and Place have.
 -- Assumes nothing.
-use Prim.Native.Nat.{ℕ, _+_, _*_, _≤_}
+use Prim.Native.Nat.{ℕ, _+_, _≤_}
 use native.Mathlib.Omega.{arith}
 use mathlib.Core.Path.{_≡_}
 use mathlib.Core.List.{List}
@@ -10,7 +10,7 @@ use Rattle.rows.specs.Numbers.{bytesOf}
 use Rattle.rows.specs.Rows.{written}
 use Rattle.rows.proofs.Digits.{bytes-length}
 use Rattle.rows.proofs.Bytes.{written-both, written-before}
-use Rattle.format.specs.Patches.{section, beforeBytes, placeBytes}
+use Rattle.format.specs.Patches.{section, beforeBytes, beforeMost, placeBytes, placeMost}
 use Rattle.format.proofs.Sizes.{entries-most, before-length, place-length}
 
 module _ (count : ℕ) (bytes : List ℕ) (at : ℕ) (s : List ℕ) (room : at + 1 ≤ length s) where
@@ -22,8 +22,8 @@ module _ (count : ℕ) (bytes : List ℕ) (at : ℕ) (s : List ℕ) (room : at +
   section-counted = rw bytes-length at (written-before at (bytesOf 1 count) bytes s (rw bytes-length room))
 
 -- sixteen counts, at most as many entries
-pub before-most : (counts : List ℕ) → length counts ≡ 16 → length (beforeBytes counts) ≤ 1 + 16 * 5
+pub before-most : (counts : List ℕ) → length counts ≡ 16 → length (beforeBytes counts) ≤ beforeMost
 before-most counts sixteen = omega (arith, before-length counts, entries-most 1 counts)
 
-pub place-most : (ids : List Identifier) → length ids ≤ 8 → length (placeBytes ids) ≤ 1 + 8 * 3
+pub place-most : (ids : List Identifier) → length ids ≤ 8 → length (placeBytes ids) ≤ placeMost
 place-most ids few = omega (arith, place-length ids)

@@ -17,7 +17,7 @@ use Rattle.format.specs.declared.Entry.{Entry}
 use Rattle.format.specs.declared.Patch.{Patch}
 use Rattle.format.specs.Patches.{section, headBytes, encodeEntry, entriesFrom, beforeBytes, placeBytes, lineOf, lineBytes}
 use Rattle.format.specs.Patches.{patchBytes, headSize, leastSize, mostSize}
-use Rattle.format.specs.WellFormed.{EditFits, WellFormed}
+use Rattle.format.specs.WellFormed.{LineFits, WellFormed}
 
 -- the head: kind, author, number
 pub head-length : (kind author number : ℕ) → length (headBytes kind author number) ≡ headSize
@@ -55,10 +55,10 @@ line-length : (e : Edit) (text : List ℕ) → length (lineBytes e text) ≡ 1 +
 unfolding lineBytes
 line-length e text = section-length (length (lineOf e text)) (lineOf e text)
 
--- what an edit that fits says has at most 48 bytes
-line-most : (p : Patch) (text : List ℕ) (e : Edit) → EditFits p text e → length (lineOf e text) ≤ 48
-line-most p text (Insert n) fits = omega (arith, length-take n text, fits .most)
-line-most p text (Delete n) fits = omega (arith, bytes-length 4 n)
+-- a line that fits has at most 48 bytes
+line-most : (e : Edit) (text : List ℕ) → LineFits e text → length (lineOf e text) ≤ 48
+line-most (Insert n) text fits = omega (arith, length-take n text, fits .0)
+line-most (Delete n) text fits = omega (arith, bytes-length 4 n)
 
 -- the sections behind one another
 patch-length : (p : Patch) (text : List ℕ) → length (patchBytes p text)
@@ -73,5 +73,5 @@ pub sizes : (p : Patch) (text : List ℕ) → WellFormed p text
 sizes p text h =
     let whole = patch-length p text in
     let entries = entries-most 1 (p .before) in
-    let line = line-most p text (p .edit) (h .edit) in
-    (omega (arith, whole, h .place .least), omega (arith, whole, h .counts, h .place .most))
+    let line = line-most (p .edit) text (h .line) in
+    (omega (arith, whole, h .place .least), omega (arith, whole, h .before .size, h .place .most))

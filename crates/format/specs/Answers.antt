@@ -1,5 +1,5 @@
--- Answers (01, 'Answer numbers'): a call answers the number of the first check that fails, in its order
--- of checks, or 0.
+-- Answers (01, 'Answer numbers', 'Orders of checks'): a list of grounds for refusal, each with its
+-- number, in the order in which they are looked at.
 -- Assumes nothing.
 use Prim.Native.Nat.{ℕ}
 use mathlib.Core.Bool.{Bool, true, false}

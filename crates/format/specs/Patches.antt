@@ -63,13 +63,23 @@ patchBytes p text =
     (placeBytes (idsOf (p .place)) ++
     lineBytes (p .edit) text))
 
--- How many bytes: the head has 6; each section its count byte, then entries of 5 bytes, identifiers of
--- 3, bytes of text. "Patch: 12 to 161 bytes".
+-- How many bytes: the head has 6; each section has its count byte, then entries of 5 bytes, identifiers
+-- of 3, or the line's.
 abbrev pub headSize : ℕ
 headSize = 6
 
+abbrev pub beforeMost : ℕ
+beforeMost = 1 + 16 * 5
+
+abbrev pub placeMost : ℕ
+placeMost = 1 + 8 * 3
+
+abbrev pub lineMost : ℕ
+lineMost = 1 + 48
+
+-- "Patch: 12 to 161 bytes": at least no entry, one identifier, no text
 abbrev pub leastSize : ℕ
 leastSize = headSize + (1 + ((1 + 3) + 1))
 
 abbrev pub mostSize : ℕ
-mostSize = headSize + ((1 + 16 * 5) + ((1 + 8 * 3) + (1 + 48)))
+mostSize = headSize + (beforeMost + (placeMost + lineMost))

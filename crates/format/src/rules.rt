@@ -16,8 +16,8 @@ ghost use mathlib.Core.Logic.{_↔_};
 ghost use Prim.Native.Nat.{_≤_};
 ghost use Rattle.position.specs.Positions.{pad, Proper};
 ghost use Rattle.script.specs.Records.{countOf};
-ghost use Rattle.format.specs.WellFormed.{TextFits, WellFormed};
-ghost use Rattle.format.specs.Steps.{NumberFits, HeadFits, PlaceFits, LineFits, SlotFits, FieldsFit, Agrees};
+ghost use Rattle.format.specs.WellFormed.{NumberFits, HeadFits, TextFits, LineFits, WellFormed};
+ghost use Rattle.format.specs.Steps.{SlotFits, PlaceFits, FieldsFit, Agrees};
 
 // Whether a patch with this text beside it is well-formed, for any values of both.
 pub fn well_formed(p: Patch, text: &[u8; TEXT]) -> bool
@@ -48,6 +48,7 @@ fn fields_fit(p: Patch, text: &[u8; TEXT]) -> bool
     line_fits(edit, text)
 }
 
+// The author is a site, and the number a patch's.
 fn head_fits(author: u8, number: u32) -> bool
     ensures { λ b. ⌜ (b ≡ true) ↔ HeadFits author number ⌝ }
 {
@@ -111,6 +112,7 @@ pub fn identifier_fits(i: Identifier) -> bool
     (i.site as usize) <= SITES
 }
 
+// Whether an identifier is the pad.
 fn is_pad(i: Identifier) -> bool
     ensures { λ b. ⌜ (b ≡ true) ↔ (i ≡ pad) ⌝ }
 {

@@ -22,7 +22,8 @@ use Rattle.format.specs.declared.Edit.the-variants.{Insert, Delete}
 use Rattle.format.specs.declared.Entry.{Entry}
 use Rattle.format.specs.declared.Patch.{Patch}
 use Rattle.format.specs.Patches.{headSize, section, kindOf, headBytes, encodeEntry, entriesFrom, beforeBytes, placeBytes, lineBytes, patchBytes}
-use Rattle.format.specs.Steps.{LineFits, FieldsFit}
+use Rattle.format.specs.WellFormed.{LineFits}
+use Rattle.format.specs.Steps.{FieldsFit}
 use Rattle.format.proofs.Places.{ids-used, id-at, used-proper, unused-pad}
 use Rattle.format.proofs.Sizes.{head-length, entry-length, entries-most}
 use Rattle.patch.proofs.Counts.{Rising, before-rises, entered-entries}

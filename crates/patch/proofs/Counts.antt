@@ -12,7 +12,7 @@ use Rattle.rows.specs.Numbers.{bytesOf}
 use Rattle.rows.proofs.Slots.{Each, zeros}
 use Rattle.format.specs.declared.Entry.{Entry}
 use Rattle.format.specs.Patches.{encodeEntry, entriesFrom, beforeBytes}
-use Rattle.format.specs.Steps.{BeforeFits}
+use Rattle.format.specs.WellFormed.{BeforeFits}
 use Rattle.format.proofs.Entries.{entries-first}
 use Rattle.format.proofs.Sizes.{entries-most}
 use Rattle.patch.specs.declared.cursor.Cursor.{Cursor}

@@ -1,17 +1,14 @@
 -- The place as its identifiers and as eight slots: each gives the other back, so a place is read by its
 -- identifiers and at most one has the bytes that stand at a spot.
 -- Assumes nothing.
-use Prim.Native.Nat.{ℕ, zero, suc, _+_, _-_, _≤_, _<_, suc-le-suc}
+use Prim.Native.Nat.{ℕ, zero, suc, _+_, _-_, _<_, suc-le-suc}
 use native.Mathlib.Nat.{le-of-suc-le-suc, zero-lt-suc}
-use native.Mathlib.Decide.{decLt}
 use native.Mathlib.Omega.{arith}
 use mathlib.Core.Path.{_≡_, sym, ap, subst, _∙_}
-use mathlib.Core.Logic.{by-cases}
 use mathlib.Core.List.{List, [], _∷_, _++_}
 use lib.Dec.{ltb}
 use lib.ListN.{length, getD, replicate, length-append, length-replicate, getD-replicate, List·getD-append}
 use lib.Seq.{take-at, getD-append-add}
-use borrow.Author.Tests.{lt-ltb, le-ltb}
 use Rattle.position.specs.declared.Identifier.{Identifier}
 use Rattle.position.specs.Positions.{pad, idsOf, positionOf, Proper}
 use Rattle.position.proofs.Ids.{ids-position}
@@ -20,7 +17,7 @@ use Rattle.rows.proofs.Slots.{Each}
 use Rattle.script.specs.Lines.{encodeIdentifier}
 use Rattle.format.specs.Patches.{placeBytes}
 use Rattle.format.specs.Steps.{SlotFits, PlaceFits}
-use Rattle.format.proofs.Places.{ids-used, id-at, used-proper, unused-pad}
+use Rattle.format.proofs.Places.{slot-fits, ids-used, id-at, used-proper, unused-pad}
 use Rattle.patch.specs.declared.cursor.Cursor.{Cursor}
 use Rattle.patch.specs.Steps.{Reads, Within, encodePlace}
 use Rattle.patch.proofs.Standing.{Unique, unique-identifier, Retold}
@@ -48,18 +45,15 @@ slot-of : (ids : List Identifier) (n : ℕ) → length ids ≡ n → Each pad Pr
     → SlotFits (getD (positionOf ids .ids) k pad) (ltb k n)
 slot-of ids n e proper k below =
     let pads = replicate (8 - length ids) pad in
-    let slot = getD (ids ++ pads) k pad in
-    by-cases (decLt k n)
+    slot-fits (getD (ids ++ pads) k pad) k n
     (λ used.
     let inside : k < length ids = omega arith in
-    subst (SlotFits slot) (sym (lt-ltb k n used)) (rw (List·getD-append ids pads pad k inside) (proper k inside)))
-    (λ unused.
-    let from : n ≤ k = omega arith in
+    rw (List·getD-append ids pads pad k inside) (proper k inside))
+    (λ from.
     let behind = k - length ids in
     let there : length ids + behind ≡ k = omega arith in
-    subst (SlotFits slot) (sym (le-ltb k n from))
-    (ap (λ (j : ℕ). getD (ids ++ pads) j pad) (sym there) ∙ getD-append-add ids pads behind pad
-    ∙ getD-replicate (8 - length ids) behind pad pad (omega arith)))
+    ap (λ (j : ℕ). getD (ids ++ pads) j pad) (sym there) ∙ getD-append-add ids pads behind pad
+    ∙ getD-replicate (8 - length ids) behind pad pad (omega arith))
 
 -- A place is told by how many of its identifiers are used, and these.
 place-told : Retold (λ p. record { used = p .0; ids = positionOf (p .1) .ids }) (λ p. (p .used, idsOf p))

@@ -15,8 +15,7 @@ use Rattle.rows.proofs.Slots.{zeros, filled-length, filled-zero, filled-front, 
 use Rattle.format.specs.declared.Edit.{Edit}
 use Rattle.format.specs.declared.Edit.the-variants.{Insert, Delete}
 use Rattle.format.specs.Patches.{kindOf, encodeEntry, headBytes, lineBytes}
-use Rattle.format.specs.Steps.{NumberFits, LineFits}
-use Rattle.format.specs.WellFormed.{TextFits}
+use Rattle.format.specs.WellFormed.{TextFits, NumberFits, LineFits}
 use Rattle.patch.specs.declared.cursor.Cursor.{Cursor}
 use Rattle.patch.specs.declared.cursor.Line.{Line}
 use Rattle.patch.specs.Steps.{spot, halted, There, Reads, Within, EntryAbove, encodeHead, KindAndHead, encodeLine, LineOfKind}

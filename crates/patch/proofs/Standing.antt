@@ -15,7 +15,7 @@ use Rattle.rows.specs.Rows.{Stands}
 use Rattle.rows.proofs.Digits.{Bytes, bytes-drop, bytes-length, bytes-back, num-back, num-drop}
 use Rattle.script.specs.Lines.{encodeIdentifier, decodeIdentifier}
 use Rattle.script.proofs.Encoded.{identifier-length, identifier-back, identifier-bytes}
-use Rattle.format.specs.Steps.{NumberFits}
+use Rattle.format.specs.WellFormed.{NumberFits}
 use Rattle.patch.specs.Steps.{Within}
 
 -- bytes behind one another stand where the first stand, and the others behind them

@@ -13,7 +13,8 @@ use Rattle.format.specs.declared.Edit.{Edit}
 use Rattle.format.specs.declared.Edit.the-variants.{Insert, Delete}
 use Rattle.format.specs.declared.Patch.{Patch}
 use Rattle.format.specs.Patches.{kindOf, beforeBytes, patchBytes}
-use Rattle.format.specs.Steps.{BeforeFits, PlaceFits, FieldsFit, Agrees}
+use Rattle.format.specs.WellFormed.{BeforeFits}
+use Rattle.format.specs.Steps.{PlaceFits, FieldsFit, Agrees}
 use Rattle.format.proofs.Parts.{fields-agree}
 use Rattle.patch.specs.declared.cursor.Cursor.{Cursor}
 use Rattle.patch.specs.declared.cursor.Head.{Head}

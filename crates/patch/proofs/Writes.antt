@@ -3,12 +3,12 @@
 use Prim.Native.Nat.{ℕ, _≤_, _<_}
 use native.Mathlib.Decide.{decLt}
 use native.Mathlib.Omega.{arith}
-use mathlib.Core.Path.{_≡_, refl, ap}
-use mathlib.Core.Bool.{true, false, decide}
+use mathlib.Core.Path.{_≡_, ap}
 use mathlib.Core.Logic.{by-cases}
 use mathlib.Core.List.{List}
 use lib.ListN.{length}
 use borrow.Author.Tests.{lt-ltb, le-ltb}
+use Rattle.position.proofs.Decided.{decided-true, decided-false}
 use Rattle.rows.specs.Rows.{written}
 use Rattle.format.specs.declared.Patch.{Patch}
 use Rattle.format.specs.Patches.{mostSize, patchBytes}
@@ -16,16 +16,6 @@ use Rattle.format.specs.WellFormed.{WellFormed}
 use Rattle.format.specs.Answers.{firstOf}
 use Rattle.format.proofs.Decided.{well-formed?}
 use Rattle.patch.specs.Write.{Writing, done, writeChecks, writePatch}
-
-decided-true : {P : Type 0} (d : Dec P) → P → decide d ≡ true
-unfolding decide
-decided-true (yes p) h = refl
-decided-true (no wrong) h = absurd (wrong h)
-
-decided-false : {P : Type 0} (d : Dec P) → (P → ⊥) → decide d ≡ false
-unfolding decide
-decided-false (yes p) wrong = absurd (wrong p)
-decided-false (no _) wrong = refl
 
 module _ (p : Patch) (text buffer : List ℕ) where
   -- 10: the buffer is too short

@@ -12,7 +12,7 @@ use Rattle.position.specs.Positions.{idsOf}
 use Rattle.rows.specs.Rows.{Stands}
 use Rattle.format.specs.declared.Entry.{Entry}
 use Rattle.format.specs.Patches.{kindOf, headBytes, placeBytes, lineBytes}
-use Rattle.format.specs.Steps.{NumberFits, HeadFits, LineFits}
+use Rattle.format.specs.WellFormed.{NumberFits, HeadFits, LineFits}
 use Rattle.patch.specs.declared.cursor.Cursor.{Cursor}
 use Rattle.patch.specs.declared.cursor.Head.{Head}
 use Rattle.patch.specs.declared.cursor.Line.{Line}

@@ -23,7 +23,8 @@ ghost use Rattle.position.specs.Positions.{Proper};
 ghost use Rattle.rows.specs.Numbers.{bytesOf};
 ghost use Rattle.script.specs.Lines.{encodeIdentifier};
 ghost use Rattle.format.specs.Patches.{encodeEntry, beforeBytes};
-ghost use Rattle.format.specs.Steps.{NumberFits, BeforeFits, PlaceFits};
+ghost use Rattle.format.specs.WellFormed.{NumberFits, BeforeFits};
+ghost use Rattle.format.specs.Steps.{PlaceFits};
 ghost use Rattle.patch.specs.Steps.{spot, halted, There, Reads, Within, EntryAbove, encodeHead, KindAndHead, encodePlace, encodeLine, LineOfKind};
 
 pub struct Cursor {

@@ -14,13 +14,12 @@ use rows::numbers::put_2;
 use rows::numbers::put_4;
 use script::SITES;
 ghost use mathlib.Core.Path.{_≡_};
-ghost use Prim.Native.Nat.{_+_, _*_, _≤_};
+ghost use Prim.Native.Nat.{_+_, _≤_};
 ghost use lib.ListN.{length};
 ghost use Rattle.position.specs.Positions.{idsOf};
 ghost use Rattle.rows.specs.Rows.{written};
-ghost use Rattle.format.specs.Patches.{headSize, mostSize, kindOf, headBytes, beforeBytes, placeBytes, lineBytes, patchBytes};
-ghost use Rattle.format.specs.WellFormed.{WellFormed};
-ghost use Rattle.format.specs.Steps.{LineFits};
+ghost use Rattle.format.specs.Patches.{headSize, beforeMost, placeMost, lineMost, mostSize, kindOf, headBytes, beforeBytes, placeBytes, lineBytes, patchBytes};
+ghost use Rattle.format.specs.WellFormed.{LineFits, WellFormed};
 ghost use Rattle.patch.specs.Write.{writePatch};
 
 // The answer, and how many bytes were written: 0 where it is refused.
@@ -74,6 +73,7 @@ fn kind(edit: Edit) -> u8
     }
 }
 
+// The head: kind, author, number.
 fn put_head(kind: u8, author: u8, number: u32, buffer: &mut [u8])
     requires { ⌜ headSize ≤ length (now buffer) ⌝ }
     ensures { λ _. ⌜ now (buffer .exit) ≡ written 0 (headBytes kind author number) (now (buffer .entry)) ⌝ }
@@ -86,7 +86,7 @@ fn put_head(kind: u8, author: u8, number: u32, buffer: &mut [u8])
 // Before: the counts that are not zero, each behind its site. Gives the spot behind it, as the next two
 // do.
 fn put_before(counts: [u32; SITES], buffer: &mut [u8], at: usize) -> usize
-    requires { ⌜ at + (1 + 16 * 5) ≤ length (now buffer) ⌝ }
+    requires { ⌜ at + beforeMost ≤ length (now buffer) ⌝ }
     ensures { λ r. ⌜ (r ≡ at + length (beforeBytes counts)) × (now (buffer .exit) ≡ written at (beforeBytes counts) (now (buffer .entry))) ⌝ }
 {
     let mut end = at + 1;
@@ -108,7 +108,7 @@ fn put_before(counts: [u32; SITES], buffer: &mut [u8], at: usize) -> usize
 
 // The place: the number of its identifiers, then each.
 fn put_place(place: Position, buffer: &mut [u8], at: usize) -> usize
-    requires { ⌜ at + (1 + 8 * 3) ≤ length (now buffer) ⌝ }
+    requires { ⌜ at + placeMost ≤ length (now buffer) ⌝ }
     ensures { λ r. ⌜ (r ≡ at + length (placeBytes (idsOf place))) × (now (buffer .exit) ≡ written at (placeBytes (idsOf place)) (now (buffer .entry))) ⌝ }
 {
     let used = place.length();
@@ -127,7 +127,7 @@ fn put_place(place: Position, buffer: &mut [u8], at: usize) -> usize
 
 // The line: the text of an insert, or the number of the line that a delete strikes.
 fn put_line(edit: Edit, text: &[u8; TEXT], buffer: &mut [u8], at: usize) -> usize
-    requires { ⌜ LineFits edit (now text) × (at + (1 + 48) ≤ length (now buffer)) ⌝ }
+    requires { ⌜ LineFits edit (now text) × (at + lineMost ≤ length (now buffer)) ⌝ }
     ensures { λ r. ⌜ (r ≡ at + length (lineBytes edit (now (text .entry)))) × (now (buffer .exit) ≡ written at (lineBytes edit (now (text .entry))) (now (buffer .entry))) ⌝ }
 {
     match edit {

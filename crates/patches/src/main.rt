@@ -1,10 +1,11 @@
 // Patches read and written on the compiled code. Each line of the input is the bytes of one case in
 // hexadecimal, good or damaged, or begins with `#` and says what follows. For each case it writes how
-// many bytes `read_first` and `read_one` used, then what was read, or that it was refused; a patch that
-// was read is written again, and its bytes shown. Then patches that are values and never were bytes are
-// tried on the writer. The output is compared with the file `stdout`, which is made from the document.
+// many bytes `read_first` and `read_one` used (0: refused), then what the first reading holds, which is
+// all zeros where it was refused; a patch that was read is written again, and its bytes shown. Then
+// patches that are values and never were bytes are tried on the writer. The output is compared with the
+// file `stdout`, which is made from the document.
 //
-// Rests on `patch` and `format`, and on `show` and `io`.
+// Rests on `patch`, `format`, `script` and `position`, and on `show` and `io`.
 use format::Edit;
 use format::MOST;
 use format::Patch;
@@ -87,6 +88,7 @@ fn from_hex(line: &[u8], bytes: &mut [u8]) -> usize
     n
 }
 
+// The number of a hexadecimal digit; 0 for anything else.
 fn digit(c: u8) -> u8
     ensures { λ d. ⌜ d ≤ 15 ⌝ }
 {

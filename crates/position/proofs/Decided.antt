@@ -5,12 +5,25 @@ use Prim.Native.Nat.{ℕ, zero, suc, _≤_, _<_}
 use native.Mathlib.Omega.{arith}
 use native.Mathlib.Nat.{eq-or-lt-of-le}
 use native.Mathlib.Decide.{map-dec, ℕ-discrete, decLe}
-use mathlib.Core.Path.{_≡_, sym, ap, subst}
+use mathlib.Core.Path.{_≡_, refl, sym, ap, subst}
+use mathlib.Core.Bool.{true, false, decide}
 use mathlib.Core.Logic.{_⊎_, inl, inr, ⊎-elim, Dec·and, Dec·not}
 use mathlib.Core.List.{List}
 use lib.ListN.{length, getD}
 use Rattle.position.specs.declared.Identifier.{Identifier}
 use Rattle.position.specs.Positions.{pad, Proper, lastOf, LinePosition}
+
+-- The answer of a decision.
+
+pub decided-true : {P : Type 0} (d : Dec P) → P → decide d ≡ true
+unfolding decide
+decided-true (yes p) h = refl
+decided-true (no wrong) h = absurd (wrong h)
+
+pub decided-false : {P : Type 0} (d : Dec P) → (P → ⊥) → decide d ≡ false
+unfolding decide
+decided-false (yes p) wrong = absurd (wrong p)
+decided-false (no _) wrong = refl
 
 -- A record is decided field by field: where one field is refused so is the record, otherwise go on.
 pub by-field : {A R : Type 0} → Dec A → (R → A) → (A → Dec R) → Dec R

@@ -1,5 +1,5 @@
 // The record's 67 bytes across the C boundary (01, 'The record and the table'): site (1), rows (2),
-// sixteen counts (4 each).
+// sixteen counts (4 each); and whether counts are in range.
 use crate::LAST_NUMBER;
 use crate::RECORD;
 use crate::Replica;

@@ -3,7 +3,7 @@
 // compiler turns into vectors.
 //
 // Rests on `script`, whose specs/Sound.antt is what `sound` decides, on `position` for what an
-// identifier may be, and on `rows` for numbers. Two facts make it fast, and proofs/ has them as laws.
+// identifier may be, and on `rows` for numbers and bytes that are zero. Two facts make it fast, and proofs/ has them as laws.
 // Unused identifiers are zero and the last one in use is not the pad, so positions stand in the order
 // of their 24 bytes: three words are compared, and carried on to the next row. And the faults
 // of a row's identifiers, and of its text, are or-ed together and tested once.

@@ -15,7 +15,8 @@ use Rattle.rows.proofs.Answers.{refused, means, equal}
 use Rattle.format.specs.declared.Edit.{Edit}
 use Rattle.format.specs.declared.Edit.the-variants.{Insert, Delete}
 use Rattle.format.specs.declared.Patch.{Patch}
-use Rattle.format.specs.Steps.{PlaceFits, EditAgrees, Agrees}
+use Rattle.format.specs.WellFormed.{EditAgrees}
+use Rattle.format.specs.Steps.{PlaceFits, Agrees}
 use Rattle.format.proofs.Places.{first-at, last-at, used-proper}
 use Rattle.format.proofs.rules.agrees.Statement.{statement}
 use Rattle.format.proofs.rules.agrees.Tie as tie

@@ -7,7 +7,7 @@ use mathlib.Core.Bool.{true}
 use mathlib.Core.Logic.{_↔_}
 use Rattle.rows.proofs.Answers.{refused, no-answer, means}
 use Rattle.format.specs.declared.Edit.{Edit}
-use Rattle.format.specs.Steps.{LineFits}
+use Rattle.format.specs.WellFormed.{LineFits}
 use Rattle.format.proofs.rules.line_fits.Statement.{statement}
 use Rattle.format.proofs.rules.line_fits.Tie as tie
 

@@ -15,7 +15,7 @@ use Rattle.rows.proofs.Digits.{bytes-length}
 use Rattle.rows.proofs.Slots.{flat-append, flat-length}
 use Rattle.rows.proofs.Bytes.{written-both, written-length, nothing-written}
 use Rattle.format.specs.declared.Entry.{Entry}
-use Rattle.format.specs.Patches.{encodeEntry, entriesFrom, beforeBytes}
+use Rattle.format.specs.Patches.{encodeEntry, entriesFrom, beforeBytes, beforeMost}
 use Rattle.format.proofs.Entries.{no-entry-more, entry-more}
 use Rattle.format.proofs.Sections.{section-counted}
 use Rattle.format.proofs.Sizes.{entry-length, before-length}
@@ -69,7 +69,7 @@ module _ {s₀ : List ℕ} {at : ℕ} {counts s : List ℕ} {end entries i : ℕ
         bytes = rw same (b ∙ so-far .bytes);
       }
 
-  passed-entry : 0 < getD counts i 0 → at + (1 + 16 * 5) ≤ length s₀
+  passed-entry : 0 < getD counts i 0 → at + beforeMost ≤ length s₀
       → s₁ ≡ written (end + 1) (bytesOf 4 (getD counts i 0)) (written end (bytesOf 1 (i + 1)) s)
       → end₁ ≡ end + 5 → entries₁ ≡ entries + 1 → Passed s₀ at counts s₁ end₁ entries₁ (i + 1)
   passed-entry some room b e n =

@@ -1,6 +1,6 @@
 -- `put_patch` meets its contract: a well-formed patch's sections fit, and they stand one behind the other.
 -- Assumes nothing.
-use Prim.Native.Nat.{ℕ, _+_, _*_, _≤_}
+use Prim.Native.Nat.{ℕ, _+_, _≤_}
 use native.Mathlib.Omega.{arith}
 use borrow.Author.Needs.{needs}
 use mathlib.Core.Path.{_≡_, ap, _∙_}
@@ -10,9 +10,8 @@ use Rattle.position.specs.Positions.{idsOf}
 use Rattle.rows.specs.Rows.{written}
 use Rattle.rows.proofs.Bytes.{written-both}
 use Rattle.format.specs.declared.Patch.{Patch}
-use Rattle.format.specs.Patches.{headSize, mostSize, kindOf, headBytes, beforeBytes, placeBytes, lineBytes, patchBytes}
+use Rattle.format.specs.Patches.{headSize, beforeMost, placeMost, mostSize, kindOf, headBytes, beforeBytes, placeBytes, lineBytes, patchBytes}
 use Rattle.format.specs.WellFormed.{WellFormed}
-use Rattle.format.proofs.Parts.{fields-agree}
 use Rattle.format.proofs.Sections.{before-most, place-most}
 use Rattle.format.proofs.Sizes.{head-length}
 use Rattle.patch.proofs.write.put_patch.Statement.{statement}
@@ -43,8 +42,8 @@ patch-written p text s s₁ s₂ s₃ s₄ place-at line-at end well room headed
     let before = beforeBytes (p .before) in
     let place = placeBytes (idsOf (p .place)) in
     let line = lineBytes (p .edit) text in
-    let before-short : length before ≤ 1 + 16 * 5 = before-most (p .before) (well .counts) in
-    let place-short : length place ≤ 1 + 8 * 3 = place-most (idsOf (p .place)) (well .place .most) in
+    let before-short : length before ≤ beforeMost = before-most (p .before) (well .before .size) in
+    let place-short : length place ≤ placeMost = place-most (idsOf (p .place)) (well .place .most) in
     let one : Put 0 head s headSize s₁ = (omega (arith, head-length (kindOf (p .edit)) (p .author) (p .number)), headed) in
     let two = put-both 0 headSize place-at head before s s₁ s₂ one counted (omega arith) in
     let three = put-both 0 place-at line-at (head ++ before) place s s₂ s₃ two placed (omega arith) in
@@ -61,14 +60,14 @@ put-patch-spec =
     (λ c κs. search needs)
     (λ c κs.
     let start = c .before .before .before .before .before .before .before .before .before .before .before .before in
-    omega (arith, before-most (start .args .p .before) (start .pre .0 .counts)))
+    omega (arith, before-most (start .args .p .before) (start .pre .0 .before .size)))
     (λ c κs.
     let start = c .before .before .before .before .before .before .before .before .before .before .before .before .before .before .before .before in
     let p = start .args .p in
     let text = start .args .text .now in
     let well = start .pre .0 in (
-      fields-agree p text .0 well .0 .line,
-      omega (arith, before-most (p .before) (well .counts), place-most (idsOf (p .place)) (well .place .most)),
+      well .line,
+      omega (arith, before-most (p .before) (well .before .size), place-most (idsOf (p .place)) (well .place .most)),
     ))
     (λ c. search needs)
     (λ c.

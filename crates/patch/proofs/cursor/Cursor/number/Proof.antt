@@ -4,7 +4,7 @@ use native.Mathlib.Omega.{arith}
 use mathlib.Core.Path.{sym, subst, _∙_}
 use mathlib.Core.Logic.{⊎-elim}
 use Rattle.rows.proofs.Answers.{no-answer}
-use Rattle.format.specs.Steps.{NumberFits}
+use Rattle.format.specs.WellFormed.{NumberFits}
 use Rattle.patch.proofs.Standing.{count-field, number-front}
 use Rattle.patch.proofs.Composed.{field-there, field-halts}
 use Rattle.patch.proofs.cursor.Cursor.number.Statement.{statement}
