@@ -5,8 +5,9 @@ use Prim.Native.Nat.{ℕ}
 use mathlib.Core.Bool.{Bool, true, false}
 use mathlib.Core.List.{List, [], _∷_}
 
--- the number of the first ground that holds, or 0
-unfoldable pub firstOf : List (Bool × ℕ) → ℕ
-firstOf [] = 0
-firstOf ((true, n) ∷ checks) = n
-firstOf ((false, n) ∷ checks) = firstOf checks
+-- what a call comes to: the first ground that holds refuses it with its number; where none holds, it is
+-- done
+unfoldable pub firstOf {ℓ} : {A : Type ℓ} → List (Bool × ℕ) → (ℕ → A) → A → A
+firstOf [] refused done = done
+firstOf ((true, n) ∷ checks) refused done = refused n
+firstOf ((false, n) ∷ checks) refused done = firstOf checks refused done

@@ -6,6 +6,7 @@
 // format has to believe is those two. Reading and writing are the crate `patch`.
 use position::Position;
 
+pub mod answers;
 pub mod rules;
 
 // The most bytes that the text of a line has; as many stand beside a patch, zero where unused.

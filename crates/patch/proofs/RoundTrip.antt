@@ -101,7 +101,7 @@ one-reads-back p text good =
 -- What is written.
 
 -- stands in front of the rest of the buffer
-written-front : (bytes s : List ℕ) → written 0 bytes s ≡ bytes ++ drop (length bytes) s
+pub written-front : (bytes s : List ℕ) → written 0 bytes s ≡ bytes ++ drop (length bytes) s
 unfolding written
 written-front bytes s = ap (λ (n : ℕ). bytes ++ drop n s) (zero-add (length bytes))
 

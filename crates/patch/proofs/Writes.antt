@@ -15,23 +15,23 @@ use Rattle.format.specs.Patches.{mostSize, patchBytes}
 use Rattle.format.specs.WellFormed.{WellFormed}
 use Rattle.format.specs.Answers.{firstOf}
 use Rattle.format.proofs.Decided.{well-formed?}
-use Rattle.patch.specs.Write.{Writing, done, writeChecks, writePatch}
+use Rattle.patch.specs.Write.{Writing, writeChecks, writePatch}
 
 module _ (p : Patch) (text buffer : List ℕ) where
   -- 10: the buffer is too short
   pub too-short : length buffer < mostSize → writePatch p text buffer ≡ record { answer = 10; length = 0; buffer = buffer }
-  unfolding writePatch writeChecks firstOf done
+  unfolding writePatch writeChecks firstOf
   too-short h = rw (lt-ltb (length buffer) mostSize h)
 
   -- 2: the patch is malformed
   pub malformed : mostSize ≤ length buffer → (WellFormed p text → ⊥) → writePatch p text buffer ≡ record { answer = 2; length = 0; buffer = buffer }
-  unfolding writePatch writeChecks firstOf done
+  unfolding writePatch writeChecks firstOf
   malformed h wrong = rw (le-ltb (length buffer) mostSize h, decided-false (well-formed? p text) wrong)
 
   -- 0: it is written
   pub written-done : mostSize ≤ length buffer → WellFormed p text
       → writePatch p text buffer ≡ record { answer = 0; length = length (patchBytes p text); buffer = written 0 (patchBytes p text) buffer }
-  unfolding writePatch writeChecks firstOf done
+  unfolding writePatch writeChecks firstOf
   written-done h good = rw (le-ltb (length buffer) mostSize h, decided-true (well-formed? p text) good)
 
   -- what 0 tells

@@ -1,6 +1,6 @@
 -- Writing a patch (01, 'Patch layout').
 -- Assumes nothing.
-use Prim.Native.Nat.{ℕ, zero, suc}
+use Prim.Native.Nat.{ℕ}
 use mathlib.Core.Bool.{Bool, decide, not}
 use mathlib.Core.List.{List, [], _∷_}
 use lib.Dec.{ltb}
@@ -25,10 +25,13 @@ pub record Writing : Type 0 where
   pub length : ℕ
   pub buffer : List ℕ
 
--- "from the front, length given, later bytes kept"; refused, 0 and all as it was
-unfoldable pub done : List ℕ → List ℕ → ℕ → Writing
-done bytes buffer zero = record { answer = 0; length = length bytes; buffer = written 0 bytes buffer }
-done bytes buffer (suc n) = record { answer = suc n; length = 0; buffer = buffer }
+-- refused: 0, and the buffer as it was
+abbrev pub unwritten : List ℕ → ℕ → Writing
+unwritten buffer n = record { answer = n; length = 0; buffer = buffer }
 
+-- "from the front, length given, later bytes kept"
 unfoldable pub writePatch : Patch → List ℕ → List ℕ → Writing
-writePatch p text buffer = done (patchBytes p text) buffer (firstOf (writeChecks p text buffer))
+writePatch p text buffer =
+    let bytes = patchBytes p text in
+    firstOf (writeChecks p text buffer) (unwritten buffer)
+    (record { answer = 0; length = length bytes; buffer = written 0 bytes buffer })

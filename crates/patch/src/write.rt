@@ -6,6 +6,9 @@ use format::IDENTIFIER;
 use format::MOST;
 use format::Patch;
 use format::TEXT;
+use format::answers::DONE;
+use format::answers::MALFORMED;
+use format::answers::SHORT_BUFFER;
 use format::rules::well_formed;
 use position::Position;
 use rows::moves::copy_front;
@@ -35,16 +38,19 @@ pub fn write(p: Patch, text: &[u8; TEXT], buffer: &mut [u8]) -> Written
 {
     if buffer.len() < MOST {
         return Written {
-            answer: 10,
+            answer: SHORT_BUFFER,
             length: 0,
         };
     }
     if well_formed(p, text) {
         let length = put_patch(p, text, buffer);
-        Written { answer: 0, length }
+        Written {
+            answer: DONE,
+            length,
+        }
     } else {
         Written {
-            answer: 2,
+            answer: MALFORMED,
             length: 0,
         }
     }

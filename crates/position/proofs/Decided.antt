@@ -1,5 +1,5 @@
--- What is decided: records field by field, what holds at each number below a bound, identifiers, and a
--- line's position.
+-- What is decided: records field by field, what holds at each number below a bound, identifiers, a
+-- line's position, and which of two positions stands below.
 -- Assumes nothing.
 use Prim.Native.Nat.{ℕ, zero, suc, _≤_, _<_}
 use native.Mathlib.Omega.{arith}
@@ -11,7 +11,11 @@ use mathlib.Core.Logic.{_⊎_, inl, inr, ⊎-elim, Dec·and, Dec·not}
 use mathlib.Core.List.{List}
 use lib.ListN.{length, getD}
 use Rattle.position.specs.declared.Identifier.{Identifier}
+use Rattle.position.specs.declared.order.Order.{Order}
+use Rattle.position.specs.declared.order.Order.the-variants.{Below, Same, Above}
 use Rattle.position.specs.Positions.{pad, Proper, lastOf, LinePosition}
+use Rattle.position.specs.Order.{orderOf, _≺_}
+use Rattle.position.proofs.Ordered.{never}
 
 -- The answer of a decision.
 
@@ -85,3 +89,12 @@ line-position? l =
     by-field (Dec·not (identifier? (lastOf l) pad)) (λ fits. fits .unpadded) λ unpadded.
     by-field (decLe (getD l 0 pad .integer) 65534) (λ fits. fits .first) λ first.
     yes (record { least = least; most = most; proper = proper; unpadded = unpadded; first = first })
+
+-- whether one position stands below another
+below? : (o : Order) → Dec (o ≡ Below)
+below? Below = yes refl
+below? Same = no (λ e. never (cc))
+below? Above = no (λ e. never (cc))
+
+pub under? : (p q : List Identifier) → Dec (p ≺ q)
+under? p q = below? (orderOf p q)

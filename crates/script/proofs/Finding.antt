@@ -16,9 +16,8 @@ use Rattle.position.specs.Order.{orderOf, _≺_}
 use Rattle.position.proofs.Ordered.{same-is, above-under, transitive}
 use Rattle.script.specs.declared.table.Found.{Found}
 use Rattle.script.specs.declared.table.Found.the-variants.{Row, Gap}
-use Rattle.script.specs.Lines.{Line}
+use Rattle.script.specs.Lines.{Line, noLine}
 use Rattle.script.specs.Find.{against, findIn}
-use Rattle.script.proofs.Tables.{noLine}
 
 -- the position of line i
 abbrev pub placeAt : List Line → ℕ → List Identifier

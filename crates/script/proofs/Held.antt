@@ -8,10 +8,10 @@ use mathlib.Core.List.{List}
 use lib.ListN.{length, getD}
 use Rattle.position.specs.Order.{_≺_}
 use Rattle.script.specs.declared.Replica.{Replica}
-use Rattle.script.specs.Lines.{Line, encodeTable, decodeRow, rowAt, decodeTable}
+use Rattle.script.specs.Lines.{Line, noLine, encodeTable, decodeRow, rowAt, decodeTable}
 use Rattle.script.specs.Sound.{SoundRecord, SoundLine, Sound}
 use Rattle.script.proofs.Encoded.{row-back, line-fits, row-sound}
-use Rattle.script.proofs.Tables.{noLine, table-length, table-row, table-unused}
+use Rattle.script.proofs.Tables.{table-length, table-row, table-unused}
 use Rattle.script.proofs.Tables.{lines-length, line-at, table-back}
 
 -- at most 512 sound lines that rise strictly by position

@@ -16,13 +16,13 @@ use Rattle.rows.proofs.Moved.{insert-length, remove-length, put-in, take-out}
 use Rattle.rows.proofs.Rising.{insert-each, insert-rising, remove-each, remove-rising}
 use Rattle.script.specs.declared.Replica.{Replica}
 use Rattle.script.specs.declared.table.Found.the-variants.{Gap}
-use Rattle.script.specs.Lines.{tableSize, rowSize, Line, encodeRow, encodeTable, decodeTable}
+use Rattle.script.specs.Lines.{tableSize, rowSize, Line, noLine, encodeRow, encodeTable, decodeTable}
 use Rattle.script.specs.Find.{findIn}
-use Rattle.script.specs.Sound.{SoundRecord, SoundLine, Sound}
+use Rattle.script.specs.Sound.{SoundLine, Sound}
 use Rattle.script.proofs.Encoded.{row-length}
-use Rattle.script.proofs.Tables.{noLine, lines-length, sound-encoded}
+use Rattle.script.proofs.Tables.{lines-length, sound-encoded}
 use Rattle.script.proofs.Finding.{Told, in-gap, told}
-use Rattle.script.proofs.Held.{SoundLines, sound-lines, lines-sound}
+use Rattle.script.proofs.Held.{SoundLines}
 
 -- Counts that are at least as high as before.
 
@@ -117,31 +117,3 @@ module _ (r : Replica) (t : List ℕ) (b : Bytes t) (sound : Sound r t) (k : ℕ
       let rows : length lines ≡ r .rows = lines-length (r .rows) t in
       let most : length lines ≤ 512 = omega (arith, sound .own .rows) in
       rw (rows, sound-encoded r t b sound) at (row-out lines k (omega arith) most)
-
-  -- and the table stays sound, with one row more or one less, under counts that may have risen
-  module _ (next : Replica) (own : SoundRecord next) (risen : Risen (r .counts) (next .counts)) where
-    still-sound : SoundLines (next .counts) (decodeTable (r .rows) t)
-    still-sound =
-        lines-kept (r .counts) (next .counts) (decodeTable (r .rows) t) risen (sound-lines r t sound)
-
-    pub put-sound : (l : Line) → next .rows ≡ r .rows + 1 → SoundLine (next .counts) l
-        → Between (decodeTable (r .rows) t) k l
-        → Sound next (within ((r .rows + 1) * rowSize) (putIn (k * rowSize) (encodeRow l)) t)
-    put-sound l one-more new place =
-        let lines = decodeTable (r .rows) t in
-        let rows : length lines ≡ r .rows = lines-length (r .rows) t in
-        let room : r .rows < 512 = omega (arith, own .rows) in
-        let more : length (insertAt k l lines) ≡ next .rows = omega (arith, insert-length k l lines) in
-        rw (put-bytes l (omega (arith, place .inside)) room)
-        (lines-sound next (insertAt k l lines) own more
-        (insert-kept (next .counts) lines still-sound k l (omega arith) new place))
-
-    pub out-sound : k < r .rows → next .rows ≡ r .rows - 1
-        → Sound next (within (r .rows * rowSize) (takeOut (k * rowSize) rowSize) t)
-    out-sound h one-less =
-        let lines = decodeTable (r .rows) t in
-        let rows : length lines ≡ r .rows = lines-length (r .rows) t in
-        let there : k < length lines = omega arith in
-        let less : length (removeAt k lines) ≡ next .rows = omega (arith, remove-length k lines there) in
-        rw (out-bytes h)
-        (lines-sound next (removeAt k lines) own less (remove-kept (next .counts) lines still-sound k there))

@@ -10,13 +10,9 @@ use Rattle.rows.proofs.Digits.{Bytes, bytes-drop}
 use Rattle.rows.proofs.Slots.{Each, slots-length, rows-length, rows-at}
 use Rattle.rows.proofs.Slots.{row-front, zero-behind, slots-back, slots-bytes}
 use Rattle.script.specs.declared.Replica.{Replica}
-use Rattle.script.specs.Lines.{Line, encodeRow, encodeTable, decodeRow, rowAt, decodeTable}
+use Rattle.script.specs.Lines.{Line, noLine, encodeRow, encodeTable, decodeRow, rowAt, decodeTable}
 use Rattle.script.specs.Sound.{Sound}
 use Rattle.script.proofs.Encoded.{Fitting, row-length, row-back, row-bytes}
-
--- what is read where there is no line
-abbrev pub noLine : Line
-noLine = record { position = []; number = 0; text = [] }
 
 pub table-length : (lines : List Line) → length (encodeTable lines) ≡ 39936
 unfolding encodeTable

@@ -1,7 +1,7 @@
 -- The lines of the script and the bytes of the table (01, 'The record and the table').
 -- Assumes nothing.
 use Prim.Native.Nat.{ℕ, _*_}
-use mathlib.Core.List.{List, _++_}
+use mathlib.Core.List.{List, [], _++_}
 use lib.ListN.{length, take, drop, getD}
 use Rattle.position.specs.declared.Identifier.{Identifier}
 use Rattle.rows.specs.Numbers.{numAt, bytesOf}
@@ -20,6 +20,10 @@ pub record Line : Type 0 where
   pub position : List Identifier
   pub number : ℕ
   pub text : List ℕ
+
+-- what is read where there is no line
+abbrev pub noLine : Line
+noLine = record { position = []; number = 0; text = [] }
 
 -- "integer (2) and site (1)"
 unfoldable pub encodeIdentifier : Identifier → List ℕ

@@ -12,10 +12,11 @@ use rows::numbers::put_4;
 ghost use mathlib.Core.Path.{_≡_};
 ghost use mathlib.Core.Bool.{true};
 ghost use mathlib.Core.Logic.{_↔_};
+ghost use Prim.Native.Nat.{_≤_};
 ghost use lib.ListN.{length, drop};
 ghost use Rattle.rows.specs.Rows.{rowsOf, flat, written};
 ghost use Rattle.rows.specs.Numbers.{bytesOf};
-ghost use Rattle.script.specs.Records.{CountsFit, recordSize, countFirst, nobody, recordRead, recordWritten};
+ghost use Rattle.script.specs.Records.{countOf, CountsFit, recordSize, countFirst, nobody, recordRead, recordWritten};
 
 // Reads the record of 67 bytes. Bytes of any other length give the record of no host, site 0, which
 // is never sound.
@@ -78,6 +79,15 @@ fn write_counts(counts: [u32; SITES], s: &mut [u8])
         put_4(s, 3 + 4 * i, counts[i]);
         i += 1;
     }
+}
+
+// The count of a site: that of site 1 stands first.
+pub fn count_of(counts: [u32; SITES], site: u8) -> u32
+    requires { ⌜ (1 ≤ site) × (site ≤ 16) ⌝ }
+    ensures { λ n. ⌜ n ≡ countOf counts site ⌝ }
+{
+    let k = (site as usize) - 1;
+    counts[k]
 }
 
 // Whether every count is in range.

@@ -1,12 +1,12 @@
 -- `find` meets its contract. The loop's invariant: the lines below `low` are below the place, and line
 -- `high`, where there is one, is above it. The measure is how many lines are left between.
 -- Assumes nothing.
-use Prim.Native.Nat.{ℕ, suc, _+_, _-_, _*_, _/_, _≤_, _<_}
+use Prim.Native.Nat.{ℕ, suc, _+_, _-_, _/_, _≤_, _<_}
 use native.Mathlib.Omega.{arith}
 use borrow.Author.Needs.{needs}
 use mathlib.Core.Path.{_≡_, sym, ap, _∙_}
 use mathlib.Core.List.{List}
-use lib.ListN.{length, take, drop, length-drop}
+use lib.ListN.{length}
 use Rattle.position.specs.declared.Position.{Position}
 use Rattle.position.specs.declared.Identifier.{Identifier}
 use Rattle.position.specs.declared.order.Order.{Order}
@@ -14,39 +14,22 @@ use Rattle.position.specs.declared.order.Order.the-variants.{Below, Same, Above
 use Rattle.position.specs.Positions.{idsOf, positionOf}
 use Rattle.position.specs.Order.{orderOf, _≺_}
 use Rattle.position.proofs.Ids.{position-ids}
-use Rattle.rows.proofs.Bytes.{rest-lent}
-use Rattle.script.specs.declared.Replica.{Replica}
-use Rattle.script.specs.Lines.{Line, identifiersOf, usedOf}
-use Rattle.script.specs.Lines.{decodeRow, rowAt, decodeTable}
-use Rattle.script.specs.Sound.{Sound}
-use Rattle.script.proofs.Identifiers.{identifiers-length}
-use Rattle.script.proofs.Tables.{lines-length, line-at}
+use Rattle.script.specs.Lines.{Line, identifiersOf, decodeTable}
+use Rattle.script.proofs.Tables.{lines-length}
 use Rattle.script.proofs.Held.{sound-lines}
 use Rattle.script.proofs.Finding.{placeAt, Under, found-same, found-gap, under-below}
+use Rattle.script.proofs.Lent.{lentRow, row-there, row-read}
 use Rattle.script.proofs.table.find.Statement.{statement}
 use Rattle.script.proofs.table.find.Tie as tie
 
--- a row in use can be read
-row-there : (r : Replica) (t : List ℕ) (k : ℕ) → Sound r t → k < r .rows
-    → let row = take (length t - k * 78) (drop (k * 78) t) in (25 ≤ length row) × (usedOf row ≤ 8)
-unfolding decodeRow
-row-there r t k sound h =
-    let size : 78 ≤ length (rowAt t k) = omega (arith, length-drop (k * 78) t, sound .size, sound .own .rows) in
-    let used = identifiers-length (rowAt t k) in
-    rw (rest-lent (k * 78) t) (omega arith, omega (arith, sound .row k h .line .position .most))
-
 -- what the comparison tells of line k
 compared : (n k : ℕ) (t : List ℕ) (q place : Position) (o : Order) → k < n
-    → q ≡ positionOf (identifiersOf (take (length t - k * 78) (drop (k * 78) t)))
+    → q ≡ positionOf (identifiersOf (lentRow t k))
     → o ≡ orderOf (idsOf q) (idsOf place) → orderOf (placeAt (decodeTable n t) k) (idsOf place) ≡ o
-unfolding decodeRow
 compared n k t q place o h read told =
-    let line : placeAt (decodeTable n t) k ≡ identifiersOf (rowAt t k) =
-    ap (λ (l : Line). l .position) (line-at n k t h) in
-    let ids : idsOf q ≡ identifiersOf (rowAt t k) =
-    ap idsOf read ∙ position-ids (identifiersOf (take (length t - k * 78) (drop (k * 78) t)))
-    ∙ ap identifiersOf (rest-lent (k * 78) t) in
-    sym (told ∙ ap (λ (l : List Identifier). orderOf l (idsOf place)) (ids ∙ sym line))
+    let ids : idsOf q ≡ placeAt (decodeTable n t) k =
+    ap idsOf read ∙ position-ids (identifiersOf (lentRow t k)) ∙ row-read n k t h in
+    sym (told ∙ ap (λ (l : List Identifier). orderOf l (idsOf place)) ids)
 
 abbrev Inv-loop : tie.InvT-loop
 Inv-loop t place low₀ rows low high =

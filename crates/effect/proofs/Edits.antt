@@ -1,0 +1,48 @@
+-- Where an edit is done: the row found is one of the table's, and its number says whether it is the line
+-- asked for.
+-- Assumes nothing.
+use Prim.Native.Nat.{ℕ, _≤_, _<_}
+use native.Mathlib.Omega.{arith}
+use borrow.Author.Tests.{eq-eqb, ne-eqb}
+use mathlib.Core.Path.{_≡_, refl, ap}
+use mathlib.Core.Bool.{true}
+use mathlib.Core.Option.{none, some}
+use mathlib.Core.List.{List}
+use lib.ListN.{length, getD}
+use Rattle.position.specs.declared.Identifier.{Identifier}
+use Rattle.rows.proofs.Answers.{no-answer}
+use Rattle.script.specs.declared.table.Found.{Found}
+use Rattle.script.specs.declared.table.Found.the-variants.{Row}
+use Rattle.script.specs.Lines.{Line, noLine, numberOf, decodeRow, rowAt, decodeTable}
+use Rattle.script.specs.Find.{findIn}
+use Rattle.script.proofs.Tables.{line-at}
+use Rattle.script.proofs.Finding.{Told, in-row, in-gap, told}
+use Rattle.effect.specs.Effect.{rowOf, isRow, numbered}
+
+-- The line of row k, with the number that stands in it.
+module _ (number n k : ℕ) (t : List ℕ) (there : k < n) where
+  its-number : getD (decodeTable n t) k noLine .number ≡ numberOf (rowAt t k)
+  unfolding decodeRow
+  its-number = ap (λ (l : Line). l .number) (line-at n k t there)
+
+  pub same-number : numberOf (rowAt t k) ≡ number → numbered number (decodeTable n t) (Row k) ≡ some k
+  same-number same = rw (its-number, eq-eqb (numberOf (rowAt t k)) number same)
+
+  pub other-number : (numberOf (rowAt t k) ≡ number → ⊥) → numbered number (decodeTable n t) (Row k) ≡ none
+  other-number other = rw (its-number, ne-eqb (numberOf (rowAt t k)) number other)
+
+-- Where a place is found among lines.
+module _ (place : List Identifier) (lines : List Line) where
+  pub found-inside : rowOf (findIn place lines) ≤ length lines
+  found-inside = by (findIn place lines) (told place lines)
+    where
+      by : (f : Found) → Told place lines f → rowOf f ≤ length lines
+      by f (in-row k inside under is) = omega arith
+      by f (in-gap k inside under over) = inside
+
+  pub row-inside : isRow (findIn place lines) ≡ true → rowOf (findIn place lines) < length lines
+  row-inside = by (findIn place lines) (told place lines)
+    where
+      by : (f : Found) → Told place lines f → isRow f ≡ true → rowOf f < length lines
+      by f (in-row k inside under is) row = inside
+      by f (in-gap k inside under over) row = absurd (no-answer _ refl row)

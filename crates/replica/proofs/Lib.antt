@@ -1,0 +1,14 @@
+pub mod Accepted
+pub mod Arrival
+pub mod Compared
+pub mod Deleted
+pub mod Inserted
+pub mod Neighbours
+pub mod NewPlace
+pub mod OwnAccepted
+pub mod OwnDone
+pub mod OwnPatch
+pub mod OwnRefused
+pub mod Received
+pub mod Started
+pub mod Tests

@@ -1,0 +1,51 @@
+// Starting a replica (01, 'Answer numbers').
+use effect::Done;
+use format::answers::DONE;
+use format::answers::NO_SITE;
+use format::answers::UNSOUND;
+use rows::moves::clear;
+use script::Replica;
+use script::SITES;
+use script::TABLE;
+ghost use mathlib.Core.Path.{_≡_};
+ghost use mathlib.Core.Bool.{_&&_};
+ghost use lib.Dec.{leb};
+ghost use Rattle.replica.specs.Start.{startCall};
+
+// Sets the own site, and zeroes rows in use, counts and table, whatever stood there.
+pub fn start(r: Replica, table: &mut [u8], site: u8) -> Done
+    ensures { λ d. ⌜ record { answer = d .answer; replica = d .replica; table = now (table .exit) } ≡ startCall r (now (table .entry)) site ⌝ }
+{
+    if !is_site(site) {
+        return Done {
+            replica: r,
+            answer: NO_SITE,
+        };
+    }
+    if table.len() != TABLE {
+        return Done {
+            replica: r,
+            answer: UNSOUND,
+        };
+    }
+    clear(table);
+    Done {
+        replica: Replica {
+            site,
+            rows: 0,
+            counts: [0; SITES],
+        },
+        answer: DONE,
+    }
+}
+
+// Whether a number is a site: 1 to 16.
+fn is_site(site: u8) -> bool
+    ensures { λ b. ⌜ b ≡ (leb 1 site && leb site 16) ⌝ }
+{
+    if 1 <= site {
+        (site as usize) <= SITES
+    } else {
+        false
+    }
+}
