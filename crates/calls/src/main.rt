@@ -22,7 +22,7 @@
 //
 // A command with a field too large for what it names is passed over, and so is any other line.
 //
-// Rests on `replica`, `script`, `rows` and `position`, and on `show` and `io`.
+// Rests on `replica`, `script`, `rows` and `position`, and on `feed`, `show` and `io`.
 use libc::STDIN_FILENO;
 use replica::compare::Lack;
 use replica::compare::compare_counts;
@@ -36,7 +36,6 @@ use script::record;
 ghost use mathlib.Core.Path.{_≡_};
 ghost use Prim.Native.Nat.{_≤_, _<_};
 ghost use lib.ListN.{length};
-ghost use Rattle.io.specs.Counts.{Counts};
 
 const REPLICAS: usize = 4;
 
@@ -52,9 +51,6 @@ const ASKED: usize = 161;
 const TEXT: usize = 60;
 
 const RECEIVED: usize = 200;
-
-// From here on a number is too large for anything but a row.
-const LARGE: u64 = 4_294_967_296;
 
 fn main() {
     let mut input = io::large_buffer();
@@ -72,7 +68,7 @@ fn obey_all(input: &[u8], tables: &mut [u8], records: &mut [u8], lent: &mut [usi
 {
     let mut at = 0;
     while at < input.len() {
-        let end = next(input, at, b'\n');
+        let end = feed::next(input, at, b'\n');
         obey(&input[at..end], tables, records, lent);
         at = end + 1;
     }
@@ -95,7 +91,7 @@ fn obey(line: &[u8], tables: &mut [u8], records: &mut [u8], lent: &mut [usize])
         lend_buffer(line, lent);
         return;
     }
-    let r = number(line, 1) as usize;
+    let r = feed::number(line, 1) as usize;
     if r < REPLICAS {
         obey_for(command, line, r, tables, records, lent);
     }
@@ -161,7 +157,7 @@ fn call(command: u8, line: &[u8], r: usize, area: &mut [u8], kept: &mut [u8], n:
 fn start(line: &[u8], r: usize, area: &mut [u8], kept: &mut [u8], n: usize)
     requires { ⌜ n ≤ length (now area) ⌝ }
 {
-    let site = number(line, 2);
+    let site = feed::number(line, 2);
     if 255 < site {
         return;
     }
@@ -175,10 +171,10 @@ fn start(line: &[u8], r: usize, area: &mut [u8], kept: &mut [u8], n: usize)
 fn insert(line: &[u8], r: usize, area: &mut [u8], kept: &mut [u8], n: usize, room: usize)
     requires { ⌜ n ≤ length (now area) ⌝ }
 {
-    let row = number(line, 2) as usize;
-    let draw = number(line, 3);
-    let digits = field(line, 4);
-    if LARGE <= draw {
+    let row = feed::number(line, 2) as usize;
+    let draw = feed::number(line, 3);
+    let digits = feed::field(line, 4);
+    if feed::LARGE <= draw {
         return;
     }
     if 2 * TEXT < digits.len() {
@@ -188,7 +184,7 @@ fn insert(line: &[u8], r: usize, area: &mut [u8], kept: &mut [u8], n: usize, roo
         return;
     }
     let mut text = [0u8; TEXT];
-    let used = from_hex(digits, &mut text);
+    let used = feed::from_hex(digits, &mut text);
     let mut buffer = [7u8; PATCH];
     let done = replica::insert::insert(
         record::read(kept),
@@ -208,7 +204,7 @@ fn insert(line: &[u8], r: usize, area: &mut [u8], kept: &mut [u8], n: usize, roo
 fn delete(line: &[u8], r: usize, area: &mut [u8], kept: &mut [u8], n: usize, room: usize)
     requires { ⌜ n ≤ length (now area) ⌝ }
 {
-    let row = number(line, 2) as usize;
+    let row = feed::number(line, 2) as usize;
     if PATCH < room {
         return;
     }
@@ -229,12 +225,12 @@ fn delete(line: &[u8], r: usize, area: &mut [u8], kept: &mut [u8], n: usize, roo
 fn receive(line: &[u8], r: usize, area: &mut [u8], kept: &mut [u8], n: usize)
     requires { ⌜ n ≤ length (now area) ⌝ }
 {
-    let digits = field(line, 2);
+    let digits = feed::field(line, 2);
     if 2 * RECEIVED < digits.len() {
         return;
     }
     let mut bytes = [0u8; RECEIVED];
-    let used = from_hex(digits, &mut bytes);
+    let used = feed::from_hex(digits, &mut bytes);
     let done = replica::receive::receive(record::read(kept), &mut area[0..n], &bytes[0..used]);
     let after = done.replica;
     record::write(after, kept);
@@ -245,7 +241,7 @@ fn receive(line: &[u8], r: usize, area: &mut [u8], kept: &mut [u8], n: usize)
 fn read(line: &[u8], r: usize, area: &[u8], kept: &[u8], n: usize)
     requires { ⌜ n ≤ length (now area) ⌝ }
 {
-    let row = number(line, 2) as usize;
+    let row = feed::number(line, 2) as usize;
     let mut answer = 0;
     let text = replica::read::read_row(record::read(kept), &area[0..n], row, &mut answer);
     show_answer(b"read", r, answer);
@@ -257,7 +253,7 @@ fn read(line: &[u8], r: usize, area: &[u8], kept: &[u8], n: usize)
 fn compare(line: &[u8], r: usize, records: &[u8])
     requires { ⌜ (length (now records) ≡ 268) × (r < 4) ⌝ }
 {
-    let q = number(line, 2) as usize;
+    let q = feed::number(line, 2) as usize;
     if REPLICAS <= q {
         return;
     }
@@ -283,9 +279,9 @@ fn counts_of(records: &[u8], r: usize) -> [u32; SITES]
 }
 
 fn set_record(line: &[u8], r: usize, area: &[u8], kept: &mut [u8]) {
-    let digits = field(line, 2);
+    let digits = feed::field(line, 2);
     if digits.len() == 2 * RECORD {
-        from_hex(digits, kept);
+        feed::from_hex(digits, kept);
         show_name(b"record", r);
         show_state(record::read(kept), area);
     }
@@ -294,7 +290,7 @@ fn set_record(line: &[u8], r: usize, area: &[u8], kept: &mut [u8]) {
 fn lend_table(line: &[u8], r: usize, lent: &mut [usize])
     requires { ⌜ r < length (now lent) ⌝ }
 {
-    let n = number(line, 2) as usize;
+    let n = feed::number(line, 2) as usize;
     if n <= AREA {
         lent[r] = n;
         show_name(b"lent", r);
@@ -307,7 +303,7 @@ fn lend_table(line: &[u8], r: usize, lent: &mut [usize])
 fn lend_buffer(line: &[u8], lent: &mut [usize])
     requires { ⌜ 4 < length (now lent) ⌝ }
 {
-    let n = number(line, 1) as usize;
+    let n = feed::number(line, 1) as usize;
     if n <= PATCH {
         lent[REPLICAS] = n;
         show::write(b"buffer: ");
@@ -317,8 +313,8 @@ fn lend_buffer(line: &[u8], lent: &mut [usize])
 }
 
 fn set_byte(line: &[u8], r: usize, area: &mut [u8], kept: &[u8]) {
-    let at = number(line, 2) as usize;
-    let value = number(line, 3);
+    let at = feed::number(line, 2) as usize;
+    let value = feed::number(line, 3);
     if 255 < value {
         return;
     }
@@ -401,25 +397,10 @@ fn show_state(held: Replica, area: &[u8]) {
     show::write(b", rows ");
     show::number(held.rows as u64);
     show::write(b", counts");
-    show_counts(counts);
+    show::counts(counts);
     show::write(b", table ");
     show_adler(area);
     show::write(b"\n");
-}
-
-// The counts that are not zero, as site:count.
-fn show_counts(counts: [u32; SITES]) {
-    let mut i = 0;
-    while i < SITES {
-        let count = counts[i];
-        if 0 < count {
-            show::write(b" ");
-            show::number((i + 1) as u64);
-            show::write(b":");
-            show::number(count as u64);
-        }
-        i += 1;
-    }
 }
 
 // For each site which side has more, and the first and the last number that the other lacks.
@@ -454,82 +435,4 @@ fn adler(bytes: &[u8]) -> u32 {
         i += 1;
     }
     b * 65536 + a
-}
-
-// The number in a field; one that is too large is cut, and stays too large.
-fn number(line: &[u8], k: usize) -> u64 {
-    let digits = field(line, k);
-    let mut value = 0;
-    let mut i = 0;
-    while i < digits.len() {
-        if value < LARGE {
-            value = value * 10 + (digit(digits[i]) as u64);
-        }
-        i += 1;
-    }
-    value
-}
-
-// What stands behind the k-th space of a line, up to the next one; nothing where there are fewer.
-fn field(line: &[u8], k: usize) -> &[u8] {
-    let mut from = 0;
-    let mut left = k;
-    while 0 < left {
-        let end = next(line, from, b' ');
-        if end == line.len() {
-            return &line[end..end];
-        }
-        from = end + 1;
-        left -= 1;
-    }
-    let end = next(line, from, b' ');
-    &line[from..end]
-}
-
-// Where a byte stands next, from a place on; the end where it does not.
-fn next(bytes: &[u8], from: usize, byte: u8) -> usize
-    requires { ⌜ from ≤ length (now bytes) ⌝ }
-    ensures { λ end. ⌜ (from ≤ end) × (end ≤ length (now (bytes .entry))) ⌝ }
-{
-    let mut end = from;
-    while end < bytes.len() {
-        if bytes[end] == byte {
-            return end;
-        }
-        end += 1;
-    }
-    end
-}
-
-// The bytes that two digits each stand for, as many as there is room for.
-fn from_hex(digits: &[u8], bytes: &mut [u8]) -> usize
-    ensures { λ n. ⌜ Counts n (now (bytes .exit)) ⌝ }
-{
-    let mut n = 0;
-    while n < bytes.len() {
-        let at = 2 * n;
-        if digits.len() < at + 2 {
-            return n;
-        }
-        bytes[n] = digit(digits[at]) * 16 + digit(digits[at + 1]);
-        n += 1;
-    }
-    n
-}
-
-// The number of a hexadecimal digit; 0 for anything else.
-fn digit(c: u8) -> u8
-    ensures { λ d. ⌜ d ≤ 15 ⌝ }
-{
-    if c < 48 {
-        0
-    } else if c < 58 {
-        c - 48
-    } else if c < 65 {
-        0
-    } else if c < 71 {
-        c - 55
-    } else {
-        0
-    }
 }

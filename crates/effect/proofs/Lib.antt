@@ -1,3 +1,4 @@
 pub mod Counted
+pub mod Decided
 pub mod Edits
 pub mod Keeps

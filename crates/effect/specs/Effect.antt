@@ -12,16 +12,17 @@ use lib.ListN.{length, take, getD, set}
 use Rattle.position.specs.declared.Identifier.{Identifier}
 use Rattle.position.specs.Positions.{idsOf}
 use Rattle.rows.specs.Rows.{insertAt, removeAt, Upto}
+use Rattle.script.specs.declared.Replica.{Replica}
 use Rattle.script.specs.declared.table.Found.{Found}
 use Rattle.script.specs.declared.table.Found.the-variants.{Row, Gap}
-use Rattle.script.specs.Lines.{Line, noLine}
+use Rattle.script.specs.Lines.{Line, noLine, decodeTable}
 use Rattle.script.specs.Records.{countOf}
 use Rattle.script.specs.Find.{findIn}
 use Rattle.format.specs.declared.Edit.{Edit}
 use Rattle.format.specs.declared.Edit.the-variants.{Insert, Delete}
 use Rattle.format.specs.declared.Patch.{Patch}
 use Rattle.format.specs.WellFormed.{WellFormed}
-use Rattle.effect.specs.Held.{Held}
+use Rattle.effect.specs.Held.{Held, Outcome, heldIn, leaving}
 
 -- "In all of these the author's count rises by 1."
 unfoldable pub raised : List ℕ → ℕ → List ℕ
@@ -76,6 +77,10 @@ doneAnswer p (Delete n) lines = struckAnswer (lineRow (idsOf (p .place)) n lines
 -- what a patch with this text beside it does
 unfoldable pub effect : Held → Patch → List ℕ → Held
 effect h p text = record { site = h .site; counts = raised (h .counts) (p .author); lines = edited p (p .edit) text (h .lines) }
+
+-- a patch done on a record and a table: the answer, and what the two then are
+abbrev pub doneBy : Replica → List ℕ → Patch → List ℕ → Outcome
+doneBy r table p text = leaving (doneAnswer p (p .edit) (decodeTable (r .rows) table)) (effect (heldIn r table) p text)
 
 -- no entry of this Before is above these counts ("early: some Before entry is above this replica's count")
 abbrev pub Covers : List ℕ → List ℕ → Type 0

@@ -22,8 +22,7 @@ ghost use Prim.Native.Nat.{_≤_, _<_};
 ghost use Rattle.script.specs.Lines.{decodeTable};
 ghost use Rattle.script.specs.Records.{countOf};
 ghost use Rattle.script.specs.Sound.{Sound};
-ghost use Rattle.effect.specs.Held.{heldIn, leaving};
-ghost use Rattle.effect.specs.Effect.{raised, rowOf, isRow, numbered, without, struckAnswer, edited, effect, doneAnswer};
+ghost use Rattle.effect.specs.Effect.{raised, rowOf, isRow, numbered, without, struckAnswer, edited, doneAnswer, doneBy};
 ghost use Rattle.effect.specs.Steps.{Ready, Leaves};
 
 // The record after a call, and the call's answer.
@@ -42,7 +41,7 @@ struct Changed {
 // its author's count.
 pub fn apply(r: Replica, table: &mut [u8], p: Patch, text: &[u8; TEXT], found: Found) -> Done
     requires { ⌜ Ready r (now table) p (now text) found ⌝ }
-    ensures { λ d. ⌜ record { answer = d .answer; replica = d .replica; table = now (table .exit) } ≡ leaving (doneAnswer p (p .edit) (decodeTable (r .rows) (now (table .entry)))) (effect (heldIn r (now (table .entry))) p (now (text .entry))) ⌝ }
+    ensures { λ d. ⌜ record { answer = d .answer; replica = d .replica; table = now (table .exit) } ≡ doneBy r (now (table .entry)) p (now (text .entry)) ⌝ }
 {
     let changed = edit_table(r, table, p, text, found);
     let counts = r.counts;

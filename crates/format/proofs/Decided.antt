@@ -6,8 +6,9 @@ use mathlib.Core.Logic.{Dec·and}
 use mathlib.Core.List.{List}
 use lib.ListN.{length, getD}
 use Rattle.position.specs.Positions.{pad, idsOf, authorOf}
-use Rattle.position.proofs.Decided.{by-field, each-below?, each-within?, identifier?, line-position?}
+use Rattle.position.proofs.Decided.{by-field, each-within?, identifier?, line-position?}
 use Rattle.script.specs.Records.{countOf}
+use Rattle.script.proofs.Decided.{counts-fit?}
 use Rattle.format.specs.declared.Edit.{Edit}
 use Rattle.format.specs.declared.Edit.the-variants.{Insert, Delete}
 use Rattle.format.specs.declared.Patch.{Patch}
@@ -26,7 +27,7 @@ head-fits? author number =
 before-fits? : (counts : List ℕ) → Dec (BeforeFits counts)
 before-fits? counts =
     by-field (ℕ-discrete (length counts) 16) (λ fits. fits .size) λ size.
-    by-field (each-below? (λ i. decLe (getD counts i 0) 1000000) 16) (λ fits. fits .most) λ most.
+    by-field (counts-fit? counts) (λ fits. fits .most) λ most.
     yes (record { size = size; most = most })
 
 text-fits? : (n : ℕ) (text : List ℕ) → Dec (TextFits n text)

@@ -5,7 +5,7 @@
 // patches that are values and never were bytes are tried on the writer. The output is compared with the
 // file `stdout`, which is made from the document.
 //
-// Rests on `patch`, `format`, `script` and `position`, and on `show` and `io`.
+// Rests on `patch`, `format`, `script` and `position`, and on `feed`, `show` and `io`.
 use format::Edit;
 use format::MOST;
 use format::Patch;
@@ -19,9 +19,6 @@ use patch::write::write;
 use position::Identifier;
 use position::Position;
 use script::SITES;
-ghost use Prim.Native.Nat.{_≤_};
-ghost use lib.ListN.{length};
-ghost use Rattle.io.specs.Counts.{Counts};
 
 // The most bytes that a case has.
 const CASE: usize = 400;
@@ -37,25 +34,10 @@ fn main() {
 fn show_cases(input: &[u8]) {
     let mut at = 0;
     while at < input.len() {
-        let end = line_end(input, at);
+        let end = feed::next(input, at, b'\n');
         show_case(&input[at..end]);
         at = end + 1;
     }
-}
-
-// Where the line that begins at `from` ends.
-fn line_end(input: &[u8], from: usize) -> usize
-    requires { ⌜ from ≤ length (now input) ⌝ }
-    ensures { λ end. ⌜ (from ≤ end) × (end ≤ length (now (input .entry))) ⌝ }
-{
-    let mut end = from;
-    while end < input.len() {
-        if input[end] == 10 {
-            return end;
-        }
-        end += 1;
-    }
-    end
 }
 
 // A line of the input: what follows, or the bytes of a case.
@@ -68,41 +50,8 @@ fn show_case(line: &[u8]) {
         }
     }
     let mut bytes = [0u8; CASE];
-    let n = from_hex(line, &mut bytes);
+    let n = feed::from_hex(line, &mut bytes);
     show_read(&bytes[..n]);
-}
-
-// The bytes that two digits each stand for, as many as there is room for.
-fn from_hex(line: &[u8], bytes: &mut [u8]) -> usize
-    ensures { λ n. ⌜ Counts n (now (bytes .exit)) ⌝ }
-{
-    let mut n = 0;
-    while n < bytes.len() {
-        let at = 2 * n;
-        if line.len() < at + 2 {
-            return n;
-        }
-        bytes[n] = digit(line[at]) * 16 + digit(line[at + 1]);
-        n += 1;
-    }
-    n
-}
-
-// The number of a hexadecimal digit; 0 for anything else.
-fn digit(c: u8) -> u8
-    ensures { λ d. ⌜ d ≤ 15 ⌝ }
-{
-    if c < 48 {
-        0
-    } else if c < 58 {
-        c - 48
-    } else if c < 65 {
-        0
-    } else if c < 71 {
-        c - 55
-    } else {
-        0
-    }
 }
 
 fn show_read(bytes: &[u8]) {
@@ -129,28 +78,13 @@ fn show_patch(r: Reading) {
     show::write(b", number ");
     show::number(p.number as u64);
     show::write(b", before");
-    show_counts(before);
+    show::counts(before);
     show::write(b", place ");
     show::position(p.place);
     show_edit(edit);
     show::write(b", beside ");
     show::hex(&text);
     show::write(b"\n");
-}
-
-// The counts that are not zero, as site:count.
-fn show_counts(counts: [u32; SITES]) {
-    let mut i = 0;
-    while i < SITES {
-        let count = counts[i];
-        if 0 < count {
-            show::write(b" ");
-            show::number((i + 1) as u64);
-            show::write(b":");
-            show::number(count as u64);
-        }
-        i += 1;
-    }
 }
 
 fn show_edit(edit: Edit) {

@@ -19,7 +19,8 @@ use Rattle.patch.specs.Read.{readOne}
 use Rattle.patch.proofs.RoundTrip.{one-is-read}
 use Rattle.effect.specs.Held.{heldIn}
 use Rattle.effect.specs.Effect.{Covers, Takes}
-use Rattle.replica.specs.Receive.{covers?, receiveChecks}
+use Rattle.effect.proofs.Decided.{covers?}
+use Rattle.replica.specs.Receive.{receiveChecks}
 
 -- a number that is not received, of a patch whose own entry is covered, is the next
 next-number : (counts : List ℕ) (p : Patch) (text : List ℕ) → WellFormed p text → Covers counts (p .before)

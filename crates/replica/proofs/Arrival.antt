@@ -23,10 +23,11 @@ use Rattle.format.proofs.Checked.{Passed, passed-done}
 use Rattle.format.proofs.Sizes.{sizes}
 use Rattle.patch.specs.Read.{readingOf}
 use Rattle.patch.proofs.RoundTrip.{one-reads-back}
-use Rattle.effect.specs.Held.{heldIn, unchanged, leaving}
-use Rattle.effect.specs.Effect.{inserts, isRow, effect, doneAnswer, Takes}
+use Rattle.effect.specs.Held.{heldIn, unchanged}
+use Rattle.effect.specs.Effect.{isRow, doneBy, inserts, Takes}
 use Rattle.replica.specs.Grounds.{full, ownCount}
-use Rattle.replica.specs.Receive.{covers?, receiveChecks, receiveCall}
+use Rattle.effect.proofs.Decided.{covers?}
+use Rattle.replica.specs.Receive.{receiveChecks, receiveCall}
 
 -- a ground that only an insert has
 only-insert : (b ground : Bool) → (b ≡ true → ground ≡ false) → (b && ground) ≡ false
@@ -65,11 +66,8 @@ module _ (r : Replica) (table : List ℕ) (p : Patch) (text : List ℕ) (sound :
         ),
       )
 
-  pub takes-done : receiveCall r table (patchBytes p text)
-      ≡ leaving (doneAnswer p (p .edit) (decodeTable (r .rows) table)) (effect (heldIn r table) p text)
+  pub takes-done : receiveCall r table (patchBytes p text) ≡ doneBy r table p text
   unfolding receiveCall
   takes-done =
       rw (one-reads-back p text (takes .patch))
-      (passed-done (unchanged r table)
-      (leaving (doneAnswer p (p .edit) (decodeTable (r .rows) table)) (effect (heldIn r table) p text))
-      (receiveChecks r table (readingOf p text)) takes-passed)
+      (passed-done (unchanged r table) (doneBy r table p text) (receiveChecks r table (readingOf p text)) takes-passed)

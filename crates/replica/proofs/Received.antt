@@ -7,13 +7,12 @@ use mathlib.Core.Logic.{_⊎_, ⊎-elim}
 use mathlib.Core.List.{List}
 use lib.ListN.{length}
 use Rattle.script.specs.declared.Replica.{Replica}
-use Rattle.script.specs.Lines.{decodeTable}
 use Rattle.script.specs.Sound.{Sound}
 use Rattle.format.specs.declared.Patch.{Patch}
 use Rattle.format.proofs.Checked.{Passed, either-way, passed-done, answer-passed}
 use Rattle.patch.specs.Read.{readOne}
-use Rattle.effect.specs.Held.{Outcome, heldIn, unchanged, leaving}
-use Rattle.effect.specs.Effect.{effect, doneAnswer, Takes}
+use Rattle.effect.specs.Held.{Outcome, heldIn, unchanged}
+use Rattle.effect.specs.Effect.{effect, doneBy, Takes}
 use Rattle.effect.proofs.Keeps.{SoundHeld, sound-held, held-sound, held-back, effect-sound}
 use Rattle.replica.specs.Receive.{receiveChecks, receiveCall}
 use Rattle.replica.proofs.Accepted.{accepted-takes}
@@ -29,7 +28,7 @@ module _ (r : Replica) (table bytes : List ℕ) (size : length (r .counts) ≡ 1
   call = receiveCall r table bytes
 
   abbrev done : Outcome
-  done = leaving (doneAnswer p (p .edit) (decodeTable (r .rows) table)) (effect (heldIn r table) p text)
+  done = doneBy r table p text
 
   kept : Sound r table × Takes (heldIn r table) p text → SoundHeld (effect (heldIn r table) p text)
   kept (sound, takes) = effect-sound (heldIn r table) p text (sound-held r table size sound) takes

@@ -1,18 +1,16 @@
 -- Comparing two sets of sixteen counts (01, 'Answer numbers').
 -- Assumes nothing.
 use Prim.Native.Nat.{ℕ, suc}
-use native.Mathlib.Decide.{decLe}
 use mathlib.Core.Bool.{Bool, cond, decide, not, _&&_}
 use mathlib.Core.List.{List, [], _∷_, zipWith}
 use lib.Dec.{ltb}
-use lib.ListN.{getD, replicate}
-use Rattle.position.proofs.Decided.{each-below?}
-use Rattle.script.specs.Records.{CountsFit}
+use lib.ListN.{replicate}
+use Rattle.script.proofs.Decided.{counts-fit?}
 use Rattle.format.specs.Answers.{firstOf}
 use Rattle.replica.specs.declared.compare.Lack.{Lack}
 use Rattle.replica.specs.declared.compare.Compared.{Compared}
 
--- "0 none, 1 first, 2 second"; "or two zeros where equal"
+-- "0 none", "two zeros where equal"
 abbrev pub noLack : Lack
 noLack = record { more = 0; first = 0; last = 0 }
 
@@ -22,9 +20,6 @@ unfoldable pub lackOf : ℕ → ℕ → Lack
 lackOf a b =
     cond (ltb b a) (record { more = 1; first = suc b; last = a })
     (cond (ltb a b) (record { more = 2; first = suc a; last = b }) noLack)
-
-abbrev pub counts-fit? : (counts : List ℕ) → Dec (CountsFit counts)
-counts-fit? counts = each-below? (λ i. decLe (getD counts i 0) 1000000) 16
 
 -- "refuses with 1 if a count is above 1,000,000"
 unfoldable pub compareChecks : List ℕ → List ℕ → List (Bool × ℕ)

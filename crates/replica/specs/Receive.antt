@@ -1,13 +1,10 @@
 -- Receiving a patch (01, 'Answer numbers').
 -- Assumes nothing.
 use Prim.Native.Nat.{ℕ}
-use native.Mathlib.Decide.{decLe}
 use mathlib.Core.Bool.{Bool, decide, not, _&&_}
 use mathlib.Core.List.{List, [], _∷_}
 use lib.Dec.{eqb, leb, ltb}
-use lib.ListN.{getD}
 use Rattle.position.specs.Positions.{idsOf}
-use Rattle.position.proofs.Decided.{each-below?}
 use Rattle.script.specs.declared.Replica.{Replica}
 use Rattle.script.specs.Lines.{decodeTable}
 use Rattle.script.specs.Records.{countOf}
@@ -15,17 +12,14 @@ use Rattle.script.specs.Find.{findIn}
 use Rattle.format.specs.Answers.{firstOf}
 use Rattle.patch.specs.declared.read.Reading.{Reading}
 use Rattle.patch.specs.Read.{readOne}
-use Rattle.effect.specs.Held.{Outcome, heldIn, unchanged, leaving}
-use Rattle.effect.specs.Effect.{isRow, inserts, Covers, effect, doneAnswer}
+use Rattle.effect.specs.Held.{Outcome, unchanged}
+use Rattle.effect.specs.Effect.{isRow, doneBy, inserts}
+use Rattle.effect.proofs.Decided.{covers?}
 use Rattle.replica.specs.Grounds.{unsound, full, ownCount}
-
--- 5: "early: some Before entry is above this replica's count"
-abbrev pub covers? : (counts before : List ℕ) → Dec (Covers counts before)
-covers? counts before = each-below? (λ i. decLe (getD before i 0) (getD counts i 0)) 16
 
 -- "Receive: 1, 2, 3, 4, 5, 6, 7." `reading` is what the bytes read as.
 -- 3: "author is this site and the number is above its count", 4: "number at most the author's count",
--- 6: "insert: a row has this position already", 7: "insert [..]: 512 rows are in use"
+-- 5: "some Before entry is above this replica's count", 6: "insert: a row has this position already", 7: "insert [..]: 512 rows are in use"
 unfoldable pub receiveChecks : Replica → List ℕ → Reading → List (Bool × ℕ)
 receiveChecks r table reading =
     let p = reading .patch in
@@ -42,6 +36,5 @@ receiveChecks r table reading =
 unfoldable pub receiveCall : Replica → List ℕ → List ℕ → Outcome
 receiveCall r table bytes =
     let reading = readOne bytes in
-    let p = reading .patch in
     firstOf (receiveChecks r table reading) (unchanged r table)
-    (leaving (doneAnswer p (p .edit) (decodeTable (r .rows) table)) (effect (heldIn r table) p (reading .text)))
+    (doneBy r table (reading .patch) (reading .text))

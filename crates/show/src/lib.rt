@@ -1,5 +1,5 @@
-// What the programs of this repository write: bytes as they are, bytes in hexadecimal, numbers, and
-// positions as 01's listing has them.
+// What the programs of this repository write: bytes as they are, bytes in hexadecimal, numbers,
+// counts, and positions as 01's listing has them.
 //
 // Rests on `position`, and on `io` to write.
 use libc::STDOUT_FILENO;
@@ -38,6 +38,21 @@ fn digit(n: u8) -> u8 {
         55 + n
     } else {
         63
+    }
+}
+
+// The counts that are not zero, as site:count.
+pub fn counts(counts: [u32; 16]) {
+    let mut i = 0;
+    while i < 16 {
+        let count = counts[i];
+        if 0 < count {
+            write(b" ");
+            number((i + 1) as u64);
+            write(b":");
+            number(count as u64);
+        }
+        i += 1;
     }
 }
 

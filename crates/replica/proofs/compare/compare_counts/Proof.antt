@@ -14,7 +14,8 @@ use Rattle.rows.proofs.Bytes.{copied-more}
 use Rattle.script.specs.Records.{CountsFit}
 use Rattle.format.specs.Answers.{firstOf}
 use Rattle.replica.specs.declared.compare.Lack.{Lack}
-use Rattle.replica.specs.Compare.{noLack, lackOf, counts-fit?, compareChecks, compareCall}
+use Rattle.script.proofs.Decided.{counts-fit?}
+use Rattle.replica.specs.Compare.{noLack, lackOf, compareChecks, compareCall}
 use Rattle.replica.proofs.Compared.{together-length, together-at}
 use Rattle.replica.proofs.Tests.{decision-is}
 use Rattle.replica.proofs.compare.compare_counts.Statement.{statement}

@@ -13,8 +13,8 @@ use Rattle.format.specs.Patches.{mostSize}
 use Rattle.format.specs.WellFormed.{WellFormed}
 use Rattle.patch.specs.Write.{Writing, writePatch}
 use Rattle.patch.proofs.Writes.{written-done}
-use Rattle.effect.specs.Held.{Outcome, heldIn, leaving}
-use Rattle.effect.specs.Effect.{effect, doneAnswer}
+use Rattle.effect.specs.Held.{Outcome}
+use Rattle.effect.specs.Effect.{doneAnswer, doneBy}
 use Rattle.replica.specs.Own.{OwnOutcome, ownEdit}
 use Rattle.replica.proofs.own.own_edit.Statement.{statement}
 use Rattle.replica.proofs.own.own_edit.Tie as tie
@@ -23,7 +23,7 @@ use Rattle.replica.proofs.own.own_edit.Tie as tie
 both-done : (r : Replica) (table buffer : List ℕ) (p : Patch) (text : List ℕ) (w : Writing) (o : Outcome)
     → mostSize ≤ length buffer → WellFormed p text → doneAnswer p (p .edit) (decodeTable (r .rows) table) ≡ 0
     → w ≡ writePatch p text buffer
-    → o ≡ leaving (doneAnswer p (p .edit) (decodeTable (r .rows) table)) (effect (heldIn r table) p text)
+    → o ≡ doneBy r table p text
     → _≡_ {A = OwnOutcome}
     (record { answer = o .answer; replica = o .replica; table = o .table; length = w .length; buffer = w .buffer })
     (ownEdit r table buffer p text)

@@ -23,11 +23,12 @@ use Rattle.patch.specs.declared.read.Reading.{Reading}
 use Rattle.patch.specs.Read.{readOne}
 use Rattle.patch.proofs.RoundTrip.{one-is-read}
 use Rattle.effect.specs.declared.Done.{Done}
-use Rattle.effect.specs.Held.{Outcome, heldIn, unchanged, leaving}
-use Rattle.effect.specs.Effect.{Takes, effect, doneAnswer}
+use Rattle.effect.specs.Held.{Outcome, heldIn, unchanged}
+use Rattle.effect.specs.Effect.{doneBy, Takes}
 use Rattle.effect.specs.Steps.{Ready}
 use Rattle.replica.specs.Grounds.{unsound}
-use Rattle.replica.specs.Receive.{covers?, receiveChecks, receiveCall}
+use Rattle.effect.proofs.Decided.{covers?}
+use Rattle.replica.specs.Receive.{receiveChecks, receiveCall}
 use Rattle.replica.proofs.Accepted.{accepted-takes}
 use Rattle.replica.proofs.Tests.{refusal-is}
 use Rattle.replica.proofs.receive.receive.Statement.{statement}
@@ -61,9 +62,7 @@ module _ (r : Replica) (table bytes : List ℕ) (reading : Reading) (read : read
   checks = receiveChecks r table reading
 
   abbrev done : Outcome
-  done =
-      let p = reading .patch in
-      leaving (doneAnswer p (p .edit) (decodeTable (r .rows) table)) (effect (heldIn r table) p (reading .text))
+  done = doneBy r table (reading .patch) (reading .text)
 
   -- of its checks these are left
   abbrev Rest : List (Bool × ℕ) → Type 0

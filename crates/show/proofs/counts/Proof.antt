@@ -1,10 +1,10 @@
--- `show_counts` is safe and ends: it looks at each of the 16 counts there are.
+-- `counts` is safe and ends: it looks at each of the 16 counts there are.
 -- Assumes nothing.
 use Prim.Native.Nat.{_≤_, _-_}
 use borrow.Author.Needs.{needs}
 use native.Mathlib.Omega.{arith}
-use Rattle.calls.proofs.show_counts.Statement.{statement}
-use Rattle.calls.proofs.show_counts.Tie as tie
+use Rattle.show.proofs.counts.Statement.{statement}
+use Rattle.show.proofs.counts.Tie as tie
 
 abbrev Inv-loop : tie.InvT-loop
 Inv-loop counts i₀ t5 t6 i = i ≤ 16
@@ -12,8 +12,8 @@ Inv-loop counts i₀ t5 t6 i = i ≤ 16
 abbrev μ-loop : tie.MeasureT-loop
 μ-loop counts i₀ t5 t6 i = 16 - i
 
-pub show-counts-spec : {M : Type 1} → statement M
-show-counts-spec =
+pub counts-spec : {M : Type 1} → statement M
+counts-spec =
     tie.close
     (tie.spec
     Inv-loop

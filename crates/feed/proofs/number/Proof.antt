@@ -3,8 +3,8 @@
 use Prim.Native.Nat.{_≤_, _-_}
 use lib.ListN.{length}
 use native.Mathlib.Omega.{arith}
-use Rattle.calls.proofs.number.Statement.{statement}
-use Rattle.calls.proofs.number.Tie as tie
+use Rattle.feed.proofs.number.Statement.{statement}
+use Rattle.feed.proofs.number.Tie as tie
 
 abbrev Inv-loop : tie.InvT-loop
 Inv-loop line k digits value₀ i₀ value i = i ≤ length digits

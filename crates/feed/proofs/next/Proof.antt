@@ -1,19 +1,19 @@
--- `line_end` is safe and ends: it looks at each byte there is, from the given one on.
+-- `next` is safe and ends: it looks at each byte there is, from the given one on.
 -- Assumes nothing.
 use Prim.Native.Nat.{_≤_, _-_}
 use native.Mathlib.Omega.{arith}
 use lib.ListN.{length}
-use Rattle.patches.proofs.line_end.Statement.{statement}
-use Rattle.patches.proofs.line_end.Tie as tie
+use Rattle.feed.proofs.next.Statement.{statement}
+use Rattle.feed.proofs.next.Tie as tie
 
 abbrev Inv-loop : tie.InvT-loop
-Inv-loop input from end₀ end = (from ≤ end) × (end ≤ length input)
+Inv-loop bytes from byte end₀ end = (from ≤ end) × (end ≤ length bytes)
 
 abbrev μ-loop : tie.MeasureT-loop
-μ-loop input from end₀ end = length input - end
+μ-loop bytes from byte end₀ end = length bytes - end
 
-pub line-end-spec : {M : Type 1} → statement M
-line-end-spec =
+pub next-spec : {M : Type 1} → statement M
+next-spec =
     tie.close
     (tie.spec
     Inv-loop

@@ -3,8 +3,8 @@
 use Prim.Native.Nat.{_≤_}
 use lib.ListN.{length}
 use native.Mathlib.Omega.{arith}
-use Rattle.calls.proofs.field.Statement.{statement}
-use Rattle.calls.proofs.field.Tie as tie
+use Rattle.feed.proofs.field.Statement.{statement}
+use Rattle.feed.proofs.field.Tie as tie
 
 abbrev Inv-loop : tie.InvT-loop
 Inv-loop line k from₀ left₀ from left = from ≤ length line

@@ -1,18 +1,18 @@
--- `from_hex` is safe and ends: it fills bytes that there are, from digits that the line has.
+-- `from_hex` is safe and ends: it fills bytes that there are, from digits that there are.
 -- Assumes nothing.
 use Prim.Native.Nat.{_≤_, _-_}
 use native.Mathlib.Omega.{arith}
 use mathlib.Core.Path.{_≡_}
 use lib.ListN.{length, length-set}
 use Rattle.io.proofs.Counting.{counts}
-use Rattle.patches.proofs.from_hex.Statement.{statement}
-use Rattle.patches.proofs.from_hex.Tie as tie
+use Rattle.feed.proofs.from_hex.Statement.{statement}
+use Rattle.feed.proofs.from_hex.Tie as tie
 
 abbrev Inv-loop : tie.InvT-loop
-Inv-loop line bytes₀ n₀ bytes n = (n ≤ length bytes₀) × (length bytes ≡ length bytes₀)
+Inv-loop digits bytes₀ n₀ bytes n = (n ≤ length bytes₀) × (length bytes ≡ length bytes₀)
 
 abbrev μ-loop : tie.MeasureT-loop
-μ-loop line bytes₀ n₀ bytes n = length bytes₀ - n
+μ-loop digits bytes₀ n₀ bytes n = length bytes₀ - n
 
 pub from-hex-spec : {M : Type 1} → statement M
 from-hex-spec =
