@@ -158,10 +158,10 @@ fn start(line: &[u8], r: usize, area: &mut [u8], kept: &mut [u8], n: usize)
     requires { ⌜ n ≤ length (now area) ⌝ }
 {
     let site = feed::number(line, 2);
-    if 255 < site {
+    if feed::LARGE <= site {
         return;
     }
-    let done = replica::start::start(record::read(kept), &mut area[0..n], site as u8);
+    let done = replica::start::start(record::read(kept), &mut area[0..n], site as u32);
     let after = done.replica;
     record::write(after, kept);
     show_answer(b"start", r, done.answer);

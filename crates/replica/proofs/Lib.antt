@@ -8,7 +8,7 @@ pub mod NewPlace
 pub mod OwnAccepted
 pub mod OwnDone
 pub mod OwnPatch
-pub mod OwnRefused
 pub mod Received
 pub mod Started
 pub mod Tests
+pub mod Unchanged

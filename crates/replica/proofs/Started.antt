@@ -33,6 +33,11 @@ both : (a b : Bool) → (a && b) ≡ true → (a ≡ true) × (b ≡ true)
 both true b e = (refl, e)
 both false b e = absurd (true≢false (sym e))
 
+pub site-range : (site : ℕ) → (leb 1 site && leb site 16) ≡ true → (1 ≤ site) × (site ≤ 16)
+site-range site e =
+    let tests = both (leb 1 site) (leb site 16) e in
+    (leb-true 1 site (tests .0), leb-true site 16 (tests .1))
+
 module _ (r : Replica) (table : List ℕ) (site : ℕ) where
   abbrev call : Outcome
   call = startCall r table site
@@ -44,8 +49,8 @@ module _ (r : Replica) (table : List ℕ) (site : ℕ) where
   site-held : Passed (startChecks table site) → SoundHeld (empty site)
   unfolding startChecks
   site-held (is-site, _) =
-      let range = both (leb 1 site) (leb site 16) (not-false (leb 1 site && leb site 16) is-site) in
-      empty-sound site (leb-true 1 site (range .0)) (leb-true site 16 (range .1))
+      let range = site-range site (not-false (leb 1 site && leb site 16) is-site) in
+      empty-sound site (range .0) (range .1)
 
   pub start-sound : Sound r table → Sound (call .replica) (call .table)
   unfolding startCall

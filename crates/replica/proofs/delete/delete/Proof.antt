@@ -26,7 +26,7 @@ use Rattle.effect.specs.Steps.{Ready}
 use Rattle.replica.specs.Own.{untouched, ownPatch, ownEdit}
 use Rattle.replica.specs.Delete.{deleteChecks, deleteCall}
 use Rattle.replica.proofs.OwnAccepted.{Deletes, delete-accepted}
-use Rattle.replica.proofs.OwnRefused.{all-untouched}
+use Rattle.replica.proofs.Unchanged.{all-untouched}
 use Rattle.replica.proofs.Deleted.{row-struck}
 use Rattle.replica.proofs.Tests.{refusal-is}
 use Rattle.replica.proofs.delete.delete.Statement.{statement}

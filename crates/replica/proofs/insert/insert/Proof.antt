@@ -26,7 +26,7 @@ use Rattle.effect.specs.Steps.{Ready}
 use Rattle.replica.specs.Own.{untouched, ownPatch, ownEdit}
 use Rattle.replica.specs.Insert.{placeBefore, insertChecks, insertCall}
 use Rattle.replica.proofs.OwnAccepted.{Inserts, insert-accepted}
-use Rattle.replica.proofs.OwnRefused.{all-untouched}
+use Rattle.replica.proofs.Unchanged.{all-untouched}
 use Rattle.replica.proofs.Tests.{refusal-is}
 use Rattle.replica.proofs.insert.insert.Statement.{statement}
 use Rattle.replica.proofs.insert.insert.Tie as tie

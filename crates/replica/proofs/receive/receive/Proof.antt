@@ -22,7 +22,6 @@ use Rattle.format.proofs.Checked.{Passed, Left, refuses, passes, is-done, all-p
 use Rattle.patch.specs.declared.read.Reading.{Reading}
 use Rattle.patch.specs.Read.{readOne}
 use Rattle.patch.proofs.RoundTrip.{one-is-read}
-use Rattle.effect.specs.declared.Done.{Done}
 use Rattle.effect.specs.Held.{Outcome, heldIn, unchanged}
 use Rattle.effect.specs.Effect.{doneBy, Takes}
 use Rattle.effect.specs.Steps.{Ready}
@@ -31,6 +30,7 @@ use Rattle.effect.proofs.Decided.{covers?}
 use Rattle.replica.specs.Receive.{receiveChecks, receiveCall}
 use Rattle.replica.proofs.Accepted.{accepted-takes}
 use Rattle.replica.proofs.Tests.{refusal-is}
+use Rattle.replica.proofs.Unchanged.{all-unchanged}
 use Rattle.replica.proofs.receive.receive.Statement.{statement}
 use Rattle.replica.proofs.receive.receive.Tie as tie
 
@@ -42,15 +42,6 @@ read-fits bytes reading read some =
     (one-is-read bytes (omega (arith, some, ap (λ (v : Reading). v .used) read)) .0)
 
 -- The ways to return.
-
--- what record and table then are
-abbrev after : Done → List ℕ → Outcome
-after d table = record { answer = d .answer; replica = d .replica; table = table }
-
--- the record handed back, with the table as it was
-all-unchanged : {r : Replica} {table : List ℕ} {n : ℕ} {d : Done} {call : Outcome}
-    → d ≡ record { replica = r; answer = n } → call ≡ unchanged r table n → after d table ≡ call
-all-unchanged {table = table} back refused = ap (λ (d : Done). after d table) back ∙ sym refused
 
 -- refused before the bytes are read
 not-sound : (r : Replica) (table bytes : List ℕ) → unsound r table ≡ true → receiveCall r table bytes ≡ unchanged r table 1
