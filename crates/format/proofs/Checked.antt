@@ -42,8 +42,8 @@ module _ {ℓ} {A : Type ℓ} (refused : ℕ → A) (done : A) where
   passed-done ((true, n) ∷ checks) (wrong, passed) = absurd (true≢false wrong)
   passed-done ((false, n) ∷ checks) (_, passed) = passed-done checks passed
 
-  -- an answer that is not the number of a ground tells that none held
-  pub answer-passed : (answer : A → ℕ) → ((n : ℕ) → answer (refused n) ≡ n) → (a : ℕ) (checks : List (Bool × ℕ))
+  -- an answer that is not the number of a ground tells that none held, and so that it is done
+  answer-passed : (answer : A → ℕ) → ((n : ℕ) → answer (refused n) ≡ n) → (a : ℕ) (checks : List (Bool × ℕ))
       → among a checks ≡ false → answer (firstOf checks refused done) ≡ a → Passed checks
   unfolding firstOf
   answer-passed answer is a [] other e = tt
@@ -51,6 +51,13 @@ module _ {ℓ} {A : Type ℓ} (refused : ℕ → A) (done : A) where
       absurd (true≢false (sym (eq-eqb a n (sym e ∙ is n)) ∙ first-false (eqb a n) (among a checks) other))
   answer-passed answer is a ((false, n) ∷ checks) other e =
       (refl, answer-passed answer is a checks (rest-false (eqb a n) (among a checks) other) e)
+
+  pub answer-done : (answer : A → ℕ) → ((n : ℕ) → answer (refused n) ≡ n) → (a : ℕ) (checks : List (Bool × ℕ))
+      → among a checks ≡ false → answer (firstOf checks refused done) ≡ a
+      → Passed checks × (firstOf checks refused done ≡ done)
+  answer-done answer is a checks other e =
+      let passed = answer-passed answer is a checks other e in
+      (passed, passed-done checks passed)
 
 -- A call, where some of its checks have passed already: code makes one test after the other, and each place
 -- of it tells one check more.

@@ -4,9 +4,8 @@
 use Prim.Native.Nat.{ℕ, suc, _-_, _≤_, _<_}
 use native.Mathlib.Omega.{arith}
 use mathlib.Core.Path.{_≡_}
-use mathlib.Core.Bool.{decide, decide-iff}
 use mathlib.Core.List.{List}
-use borrow.Author.Tests.{leb-false, eqb-false, not-false}
+use borrow.Author.Tests.{leb-false, eqb-false}
 use Rattle.script.specs.declared.Replica.{Replica}
 use Rattle.script.specs.Records.{countOf}
 use Rattle.script.specs.Sound.{Sound}
@@ -21,6 +20,7 @@ use Rattle.effect.specs.Held.{heldIn}
 use Rattle.effect.specs.Effect.{Covers, Takes}
 use Rattle.effect.proofs.Decided.{covers?}
 use Rattle.replica.specs.Receive.{receiveChecks}
+use Rattle.replica.proofs.Tests.{passed-is}
 
 -- a number that is not received, of a patch whose own entry is covered, is the next
 next-number : (counts : List ℕ) (p : Patch) (text : List ℕ) → WellFormed p text → Covers counts (p .before)
@@ -35,11 +35,10 @@ pub accepted-takes : (r : Replica) (table bytes : List ℕ) → Passed (receiveC
 unfolding receiveChecks
 accepted-takes r table bytes (soundly, (some, (own, (above, (covered, (free, (room, _))))))) =
     let p = readOne bytes .patch in
-    let sound : Sound r table = decide-iff (sound? r table) .0 (not-false (decide (sound? r table)) soundly) in
+    let sound : Sound r table = passed-is (sound? r table) soundly in
     let good : WellFormed p (readOne bytes .text) =
     one-is-read bytes (omega (arith, eqb-false (readOne bytes .used) 0 some)) .0 in
-    let covers : Covers (r .counts) (p .before) =
-    decide-iff (covers? (r .counts) (p .before)) .0 (not-false (decide (covers? (r .counts) (p .before))) covered) in (
+    let covers : Covers (r .counts) (p .before) = passed-is (covers? (r .counts) (p .before)) covered in (
       sound,
       record {
         patch = good;

@@ -34,6 +34,11 @@ only-insert : (b ground : Bool) → (b ≡ true → ground ≡ false) → (b && 
 only-insert true ground passes = passes refl
 only-insert false ground passes = refl
 
+-- one check and those behind it
+infixr 20 _also_
+_also_ : {A B : Type 0} → A → B → A × B
+a also b = (a, b)
+
 module _ (r : Replica) (table : List ℕ) (p : Patch) (text : List ℕ) (sound : Sound r table)
     (takes : Takes (heldIn r table) p text) (other : p .author ≡ r .site → ⊥) where
   takes-passed : Passed (receiveChecks r table (readingOf p text))
@@ -43,28 +48,15 @@ module _ (r : Replica) (table : List ℕ) (p : Patch) (text : List ℕ) (sound :
       let some : length (patchBytes p text) ≡ 0 → ⊥ = λ none. omega (arith, sizes p text (takes .patch) .0) in
       let above : count < p .number = omega (arith, takes .next) in
       let left : inserts (p .edit) ≡ true → full r ≡ false =
-      λ is. ne-eqb (r .rows) 512 (λ e. omega (arith, takes .room is, lines-length (r .rows) table)) in (
-        ap not (decided-true (sound? r table) sound),
-        (
-          ne-eqb (length (patchBytes p text)) 0 some,
-          (
-            ap (λ (b : Bool). b && ltb (ownCount r) (p .number)) (ne-eqb (p .author) (r .site) other),
-            (
-              lt-leb (p .number) count above,
-              (
-                ap not (decided-true (covers? (r .counts) (p .before)) (takes .before)),
-                (
-                  only-insert (inserts (p .edit)) (isRow (findIn (idsOf (p .place)) (decodeTable (r .rows) table))) (takes .free),
-                  (
-                    only-insert (inserts (p .edit)) (full r) left,
-                    tt,
-                  ),
-                ),
-              ),
-            ),
-          ),
-        ),
-      )
+      λ is. ne-eqb (r .rows) 512 (λ e. omega (arith, takes .room is, lines-length (r .rows) table)) in
+      ap not (decided-true (sound? r table) sound) also
+      ne-eqb (length (patchBytes p text)) 0 some also
+      ap (λ (b : Bool). b && ltb (ownCount r) (p .number)) (ne-eqb (p .author) (r .site) other) also
+      lt-leb (p .number) count above also
+      ap not (decided-true (covers? (r .counts) (p .before)) (takes .before)) also
+      only-insert (inserts (p .edit)) (isRow (findIn (idsOf (p .place)) (decodeTable (r .rows) table))) (takes .free) also
+      only-insert (inserts (p .edit)) (full r) left also
+      tt
 
   pub takes-done : receiveCall r table (patchBytes p text) ≡ doneBy r table p text
   unfolding receiveCall

@@ -16,7 +16,7 @@ use Rattle.script.specs.Sound.{Sound}
 use Rattle.script.proofs.Lent.{line-found}
 use Rattle.format.specs.declared.Edit.the-variants.{Delete}
 use Rattle.format.specs.declared.Patch.{Patch}
-use Rattle.format.proofs.Checked.{either-way, passed-done, answer-passed}
+use Rattle.format.proofs.Checked.{either-way, answer-done}
 use Rattle.effect.specs.Held.{Held, heldIn}
 use Rattle.effect.specs.Effect.{lineRow, without, strike, edited, effect, doneAnswer}
 use Rattle.effect.proofs.Edits.{same-number}
@@ -60,12 +60,12 @@ module _ (r : Replica) (table : List ℕ) (row : ℕ) (buffer : List ℕ) (size 
   unfolding deleteCall deleteChecks doneAnswer
   delete-done answered =
       let checks = deleteChecks r table row buffer in
-      let passed = answer-passed (untouched r table buffer) done (λ (o : OwnOutcome). o .answer) (λ n. refl) 0 checks refl answered in
-      let deletes = delete-accepted r table size row buffer passed in
+      let told = answer-done (untouched r table buffer) done (λ (o : OwnOutcome). o .answer) (λ n. refl) 0 checks refl answered in
+      let deletes = delete-accepted r table size row buffer (told .0) in
       let struck : doneAnswer p (p .edit) (decodeTable (r .rows) table) ≡ 0 =
       rw (position-ids, row-struck r table row (deletes .sound) (deletes .inside)) in (
         deletes,
-        subst (OwnDone r table buffer p text) (sym (passed-done (untouched r table buffer) done checks passed))
+        subst (OwnDone r table buffer p text) (sym (told .1))
             (own-done r table buffer p text size (deletes .sound) (deletes .takes) struck),
       )
 

@@ -19,7 +19,7 @@ use Rattle.script.specs.Sound.{Sound}
 use Rattle.script.specs.Find.{findIn}
 use Rattle.format.specs.declared.Edit.the-variants.{Insert}
 use Rattle.format.specs.declared.Patch.{Patch}
-use Rattle.format.proofs.Checked.{either-way, passed-done, answer-passed}
+use Rattle.format.proofs.Checked.{either-way, answer-done}
 use Rattle.effect.specs.Held.{Held, heldIn}
 use Rattle.effect.specs.Effect.{put, edited, effect, doneAnswer}
 use Rattle.replica.specs.Grounds.{ownCount}
@@ -53,10 +53,10 @@ module _ (r : Replica) (table : List ℕ) (row draw : ℕ) (text buffer : List �
   unfolding insertCall insertChecks doneAnswer
   insert-done answered =
       let checks = insertChecks r table row text buffer (placeBefore r table row draw) in
-      let passed = answer-passed (untouched r table buffer) done (λ (o : OwnOutcome). o .answer) (λ n. refl) 0 checks refl answered in
-      let inserts = insert-accepted r table size row buffer draw text passed in (
+      let told = answer-done (untouched r table buffer) done (λ (o : OwnOutcome). o .answer) (λ n. refl) 0 checks refl answered in
+      let inserts = insert-accepted r table size row buffer draw text (told .0) in (
         inserts,
-        subst (OwnDone r table buffer p (filled 48 text)) (sym (passed-done (untouched r table buffer) done checks passed))
+        subst (OwnDone r table buffer p (filled 48 text)) (sym (told .1))
             (own-done r table buffer p (filled 48 text) size (inserts .sound) (inserts .takes) refl),
       )
 

@@ -4,7 +4,7 @@
 use Prim.Native.Nat.{ℕ, _-_, _≤_, _<_}
 use native.Mathlib.Omega.{arith}
 use mathlib.Core.Path.{_≡_, sym, subst}
-use mathlib.Core.Bool.{false, decide, decide-iff}
+use mathlib.Core.Bool.{false}
 use mathlib.Core.List.{List}
 use borrow.Author.Tests.{ltb-false, leb-false, eqb-false, not-false}
 use lib.ListN.{length, replicate}
@@ -26,6 +26,7 @@ use Rattle.replica.specs.Own.{ownPatch}
 use Rattle.replica.specs.Insert.{placeBefore, insertChecks}
 use Rattle.replica.specs.Delete.{deleteChecks}
 use Rattle.replica.proofs.NewPlace.{NewPlace, new-place}
+use Rattle.replica.proofs.Tests.{passed-is}
 use Rattle.replica.proofs.OwnPatch.{insert-takes, delete-takes}
 
 module _ (r : Replica) (table : List ℕ) (size : length (r .counts) ≡ 16) (row : ℕ) (buffer : List ℕ) where
@@ -50,7 +51,7 @@ module _ (r : Replica) (table : List ℕ) (size : length (r .counts) ≡ 16) (ro
   unfolding insertChecks
   insert-accepted draw text (soundly, (room, (inside, (short, (left, (unused, (made, (free, _)))))))) =
       let place = placeBefore r table row draw .place in
-      let sound : Sound r table = decide-iff (sound? r table) .0 (not-false (decide (sound? r table)) soundly) in
+      let sound : Sound r table = passed-is (sound? r table) soundly in
       let within : row ≤ r .rows = ltb-false (r .rows) row inside in
       let most : length text ≤ 48 = ltb-false 48 (length text) short in
       let new = new-place r table row draw sound within (not-false (placeBefore r table row draw .made) made) in
@@ -80,7 +81,7 @@ module _ (r : Replica) (table : List ℕ) (size : length (r .counts) ≡ 16) (ro
   pub delete-accepted : Passed (deleteChecks r table row buffer) → Deletes
   unfolding deleteChecks
   delete-accepted (soundly, (room, (inside, (unused, _)))) =
-      let sound : Sound r table = decide-iff (sound? r table) .0 (not-false (decide (sound? r table)) soundly) in
+      let sound : Sound r table = passed-is (sound? r table) soundly in
       let within : row < r .rows = leb-false (r .rows) row inside in
       let below = unspent sound (eqb-false (ownCount r) 1000000 unused) in
       let line = sound .row row within .line in

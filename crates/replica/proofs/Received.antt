@@ -9,7 +9,7 @@ use lib.ListN.{length}
 use Rattle.script.specs.declared.Replica.{Replica}
 use Rattle.script.specs.Sound.{Sound}
 use Rattle.format.specs.declared.Patch.{Patch}
-use Rattle.format.proofs.Checked.{Passed, either-way, passed-done, answer-passed}
+use Rattle.format.proofs.Checked.{Passed, either-way, answer-done}
 use Rattle.patch.specs.Read.{readOne}
 use Rattle.effect.specs.Held.{Outcome, heldIn, unchanged}
 use Rattle.effect.specs.Effect.{effect, doneBy, Takes}
@@ -47,11 +47,9 @@ module _ (r : Replica) (table bytes : List ℕ) (size : length (r .counts) ≡ 1
     pub outcome : call ≡ done
     pub held : heldIn (call .replica) (call .table) ≡ effect (heldIn r table) p text
 
-  received : Passed (receiveChecks r table (readOne bytes)) → Received
-  unfolding receiveCall
-  received passed =
+  received : Passed (receiveChecks r table (readOne bytes)) × (call ≡ done) → Received
+  received (passed, is) =
       let accepted = accepted-takes r table bytes passed in
-      let is : call ≡ done = passed-done (unchanged r table) done (receiveChecks r table (readOne bytes)) passed in
       record {
         sound = accepted .0;
         takes = accepted .1;
@@ -62,6 +60,6 @@ module _ (r : Replica) (table bytes : List ℕ) (size : length (r .counts) ≡ 1
   pub receive-done : (call .answer ≡ 0) ⊎ (call .answer ≡ 15) → Received
   unfolding receiveCall receiveChecks
   receive-done answered =
-      let tells = answer-passed (unchanged r table) done (λ (o : Outcome). o .answer) (λ n. refl) in
+      let tells = answer-done (unchanged r table) done (λ (o : Outcome). o .answer) (λ n. refl) in
       let checks = receiveChecks r table (readOne bytes) in
       received (⊎-elim (tells 0 checks refl) (tells 15 checks refl) answered)

@@ -10,7 +10,7 @@ use lib.Dec.{leb}
 use lib.ListN.{length-replicate, getD-replicate}
 use Rattle.script.specs.declared.Replica.{Replica}
 use Rattle.script.specs.Sound.{Sound}
-use Rattle.format.proofs.Checked.{Passed, either-way, passed-done, answer-passed}
+use Rattle.format.proofs.Checked.{Passed, either-way, answer-done}
 use Rattle.effect.specs.Held.{Outcome, heldIn, unchanged, leaving}
 use Rattle.effect.proofs.Keeps.{SoundHeld, held-sound, held-back}
 use Rattle.replica.specs.Start.{empty, startChecks, startCall}
@@ -67,9 +67,9 @@ module _ (r : Replica) (table : List ℕ) (site : ℕ) where
   unfolding startCall startChecks
   start-done answered =
       let checks = startChecks table site in
-      let passed = answer-passed (unchanged r table) done (λ (o : Outcome). o .answer) (λ n. refl) 0 checks refl answered in
-      let is : call ≡ done = passed-done (unchanged r table) done checks passed in
+      let told = answer-done (unchanged r table) done (λ (o : Outcome). o .answer) (λ n. refl) 0 checks refl answered in
+      let held = site-held (told .0) in
       record {
-        sound = subst (λ (o : Outcome). Sound (o .replica) (o .table)) (sym is) (held-sound (empty site) (site-held passed));
-        held = ap (λ (o : Outcome). heldIn (o .replica) (o .table)) is ∙ held-back (empty site) (site-held passed);
+        sound = subst (λ (o : Outcome). Sound (o .replica) (o .table)) (sym (told .1)) (held-sound (empty site) held);
+        held = ap (λ (o : Outcome). heldIn (o .replica) (o .table)) (told .1) ∙ held-back (empty site) held;
       }
