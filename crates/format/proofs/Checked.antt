@@ -42,7 +42,7 @@ module _ {ℓ} {A : Type ℓ} (refused : ℕ → A) (done : A) where
   passed-done ((true, n) ∷ checks) (wrong, passed) = absurd (true≢false wrong)
   passed-done ((false, n) ∷ checks) (_, passed) = passed-done checks passed
 
-  -- an answer that is not the number of a ground tells that none held, and so that it is done
+  -- an answer that is not the number of a ground tells that none held
   answer-passed : (answer : A → ℕ) → ((n : ℕ) → answer (refused n) ≡ n) → (a : ℕ) (checks : List (Bool × ℕ))
       → among a checks ≡ false → answer (firstOf checks refused done) ≡ a → Passed checks
   unfolding firstOf
@@ -52,6 +52,7 @@ module _ {ℓ} {A : Type ℓ} (refused : ℕ → A) (done : A) where
   answer-passed answer is a ((false, n) ∷ checks) other e =
       (refl, answer-passed answer is a checks (rest-false (eqb a n) (among a checks) other) e)
 
+  -- and so that it is done
   pub answer-done : (answer : A → ℕ) → ((n : ℕ) → answer (refused n) ≡ n) → (a : ℕ) (checks : List (Bool × ℕ))
       → among a checks ≡ false → answer (firstOf checks refused done) ≡ a
       → Passed checks × (firstOf checks refused done ≡ done)
@@ -62,7 +63,9 @@ module _ {ℓ} {A : Type ℓ} (refused : ℕ → A) (done : A) where
 -- A call, where some of its checks have passed already: code makes one test after the other, and each place
 -- of it tells one check more.
 pub record Left {A : Type 0} (call : A) (checks rest : List (Bool × ℕ)) (refused : ℕ → A) (done : A) : Type 0 where
+  -- it comes to what the rest comes to
   pub comes : call ≡ firstOf rest refused done
+  -- and where the rest passes too, all have
   pub before : Passed rest → Passed checks
 
 module _ {A : Type 0} {call : A} {checks : List (Bool × ℕ)} {refused : ℕ → A} {done : A} where

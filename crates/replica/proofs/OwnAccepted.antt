@@ -36,11 +36,13 @@ module _ (r : Replica) (table : List ℕ) (size : length (r .counts) ≡ 16) (ro
       let there : r .site - 1 < 16 = omega (arith, sound .own .site-least, sound .own .site-most) in
       omega (arith, left, sound .own .counts (r .site - 1) there)
 
+  -- of an insert of this text, with the place that was made
   pub record Inserts (text : List ℕ) (place : Position) : Type 0 where
     pub sound : Sound r table
     pub buffer-room : mostSize ≤ length buffer
     pub inside : row ≤ r .rows
     pub short : length text ≤ 48
+    -- a number is left
     pub left : ownCount r < 1000000
     pub new : NewPlace r table row place
     pub takes : Takes (heldIn r table) (ownPatch r place (Insert (length text))) (filled 48 text)
@@ -50,7 +52,6 @@ module _ (r : Replica) (table : List ℕ) (size : length (r .counts) ≡ 16) (ro
       → Inserts text (placeBefore r table row draw .place)
   unfolding insertChecks
   insert-accepted draw text (soundly, (room, (inside, (short, (left, (unused, (made, (free, _)))))))) =
-      let place = placeBefore r table row draw .place in
       let sound : Sound r table = passed-is (sound? r table) soundly in
       let within : row ≤ r .rows = ltb-false (r .rows) row inside in
       let most : length text ≤ 48 = ltb-false 48 (length text) short in
@@ -69,6 +70,7 @@ module _ (r : Replica) (table : List ℕ) (size : length (r .counts) ≡ 16) (ro
             (insert-takes r table size sound below (new .ids) (new .line) (new .author) text most nowhere rows-left);
       }
 
+  -- of a delete: the patch names the line of the row
   pub record Deletes : Type 0 where
     pub sound : Sound r table
     pub buffer-room : mostSize ≤ length buffer

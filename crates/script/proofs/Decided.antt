@@ -41,14 +41,20 @@ sound-row? counts row =
     by-field (each-within? (λ j. ℕ-discrete (getD row (30 + j) 0) 0) (textLengthOf row) 48) (λ sound. sound .unused-text) λ unused-text.
     yes (record { line = line; text-length = text-length; unused-identifiers = unused-identifiers; unused-text = unused-text })
 
--- each row and the one behind it, below n rows
-rising? : (table : List ℕ) (n : ℕ)
-    → Dec ((i : ℕ) → suc i < n → decodeRow (rowAt table i) .position ≺ decodeRow (rowAt table (suc i)) .position)
+-- row i is below the one behind it
+abbrev Rises : List ℕ → ℕ → Type 0
+Rises table i = decodeRow (rowAt table i) .position ≺ decodeRow (rowAt table (suc i)) .position
+
+rises? : (table : List ℕ) (i : ℕ) → Dec (Rises table i)
+rises? table i = under? (decodeRow (rowAt table i) .position) (decodeRow (rowAt table (suc i)) .position)
+
+-- where there is one behind it, of n rows
+rising? : (table : List ℕ) (n : ℕ) → Dec ((i : ℕ) → suc i < n → Rises table i)
 rising? table n =
     map-dec
-    (λ (every : (i : ℕ) → i < n → suc i < n → decodeRow (rowAt table i) .position ≺ decodeRow (rowAt table (suc i)) .position) i h. every i (omega arith) h)
+    (λ (every : (i : ℕ) → i < n → suc i < n → Rises table i) i h. every i (omega arith) h)
     (λ every i below h. every i h)
-    (each-below? (λ i. implied? (decLe (suc (suc i)) n) (under? (decodeRow (rowAt table i) .position) (decodeRow (rowAt table (suc i)) .position))) n)
+    (each-below? (λ i. implied? (decLe (suc (suc i)) n) (rises? table i)) n)
 
 pub sound? : (r : Replica) (table : List ℕ) → Dec (Sound r table)
 sound? r table =

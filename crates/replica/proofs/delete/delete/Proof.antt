@@ -73,8 +73,8 @@ Past k s =
     let table = s .args .table .now in
     let row = s .args .row in
     let buffer = s .args .buffer .now in
-    Left (deleteCall r table row buffer) (deleteChecks r table row buffer) (drop k (deleteChecks r table row buffer)) (untouched r table buffer)
-    (ownEdit r table buffer (patch r table row) (replicate 48 0))
+    let checks = deleteChecks r table row buffer in
+    Left (deleteCall r table row buffer) checks (drop k checks) (untouched r table buffer) (ownEdit r table buffer (patch r table row) (replicate 48 0))
 
 none-past : (s : tie.Start) → Past 0 s
 unfolding deleteCall
@@ -119,6 +119,7 @@ module _ (c : tie.Else4) where
   all-past =
       passes (row-past (c .before .before .before)) (ne-eqb _ _ (λ spent. c .if4 .left (c .before .count-of .ensures ∙ spent)))
 
+  -- what the checks tell
   deletes : Deletes (start .args .r) (start .args .table .now) (sixteen start) (start .args .row) (start .args .buffer .now)
   unfolding deleteChecks
   deletes =

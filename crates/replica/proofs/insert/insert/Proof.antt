@@ -157,6 +157,7 @@ all-past c = passes (place-past (c .before .before .before .before .before)) (ta
 sixteen : (s : tie.Start) → length (s .args .r .counts) ≡ 16
 sixteen s = search needs
 
+-- what the checks tell, all passed
 inserts : (c : tie.Else8)
     → let s = start₈ c in
     Inserts (s .args .r) (s .args .table .now) (sixteen s) (s .args .row) (s .args .buffer .now) (s .args .text .now) (made s .place)
