@@ -3,7 +3,8 @@
 //
 // Rests on `position` for places, on `rows` for numbers, and on `script` for the identifier's bytes and
 // the counts. The bytes are specs/Patches.antt and the rules specs/WellFormed.antt; what a reader of the
-// format has to believe is those two. Reading and writing are the crate `patch`.
+// format has to believe is those two. Reading and writing are the crate `patch`. The answer numbers stand here
+// too (`answers`), below everything that answers with one.
 use position::Position;
 
 pub mod answers;
