@@ -1,7 +1,7 @@
 -- What a list of checks comes to: either a ground refuses, or none holds and it is done.
 -- Assumes nothing.
 use Prim.Native.Nat.{ℕ}
-use mathlib.Core.Path.{_≡_, refl, sym, _∙_}
+use mathlib.Core.Path.{_≡_, refl, sym, ap, _∙_}
 use mathlib.Core.Bool.{Bool, true, false, true≢false, _||_}
 use mathlib.Core.List.{List, [], _∷_}
 use lib.Dec.{eqb}
@@ -59,6 +59,16 @@ module _ {ℓ} {A : Type ℓ} (refused : ℕ → A) (done : A) where
   answer-done answer is a checks other e =
       let passed = answer-passed answer is a checks other e in
       (passed, passed-done checks passed)
+
+-- a call that does not answer as a done one was refused, and so is any other call with the same checks
+pub refused-alike : {A B : Type 0} (refused : ℕ → A) (done : A) (answer : A → ℕ) → ((n : ℕ) → answer (refused n) ≡ n)
+    → (refused′ : ℕ → B) (done′ : B) (checks : List (Bool × ℕ)) → (answer (firstOf checks refused done) ≡ answer done → ⊥)
+    → firstOf checks refused′ done′ ≡ refused′ (answer (firstOf checks refused done))
+unfolding firstOf
+refused-alike refused done answer is refused′ done′ [] other = absurd (other refl)
+refused-alike refused done answer is refused′ done′ ((true, n) ∷ checks) other = ap refused′ (sym (is n))
+refused-alike refused done answer is refused′ done′ ((false, n) ∷ checks) other =
+    refused-alike refused done answer is refused′ done′ checks other
 
 -- A call, where some of its checks have passed already: code makes one test after the other, and each place
 -- of it tells one check more.

@@ -9,6 +9,7 @@ pub mod OwnAccepted
 pub mod OwnDone
 pub mod OwnPatch
 pub mod Received
+pub mod RowRead
 pub mod Started
 pub mod Tests
 pub mod Unchanged

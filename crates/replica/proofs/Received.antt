@@ -13,6 +13,7 @@ use Rattle.format.proofs.Checked.{Passed, either-way, answer-done}
 use Rattle.patch.specs.Read.{readOne}
 use Rattle.effect.specs.Held.{Outcome, heldIn, unchanged}
 use Rattle.effect.specs.Effect.{effect, doneBy, Takes}
+use Rattle.effect.proofs.Counted.{raised-length}
 use Rattle.effect.proofs.Keeps.{SoundHeld, sound-held, held-sound, held-back, effect-sound}
 use Rattle.replica.specs.Receive.{receiveChecks, receiveCall}
 use Rattle.replica.proofs.Accepted.{accepted-takes}
@@ -39,6 +40,13 @@ module _ (r : Replica) (table bytes : List ℕ) (size : length (r .counts) ≡ 1
       either-way (unchanged r table) done (λ (o : Outcome). Sound (o .replica) (o .table))
       (receiveChecks r table (readOne bytes)) (λ n. sound)
       (λ passed. held-sound (effect (heldIn r table) p text) (kept (accepted-takes r table bytes passed)))
+
+  -- and a record of sixteen counts one of sixteen
+  pub receive-counts : length (call .replica .counts) ≡ 16
+  unfolding receiveCall effect
+  receive-counts =
+      either-way (unchanged r table) done (λ (o : Outcome). length (o .replica .counts) ≡ 16)
+      (receiveChecks r table (readOne bytes)) (λ n. size) (λ passed. raised-length (r .counts) (p .author) ∙ size)
 
   -- what the answers 0 and 15 tell
   pub record Received : Type 0 where

@@ -1,6 +1,6 @@
 -- The lines of the script and the bytes of the table (01, 'The record and the table').
 -- Assumes nothing.
-use Prim.Native.Nat.{ℕ, _*_}
+use Prim.Native.Nat.{ℕ, _+_, _*_}
 use mathlib.Core.List.{List, [], _++_}
 use lib.ListN.{length, take, drop, getD}
 use Rattle.position.specs.declared.Identifier.{Identifier}
@@ -69,6 +69,10 @@ decodeRow row = record { position = identifiersOf row; number = numberOf row; te
 -- the table's bytes from row i on
 abbrev pub rowAt : List ℕ → ℕ → List ℕ
 rowAt table i = drop (i * rowSize) table
+
+-- where in the table the text of row i begins
+abbrev pub textStart : ℕ → ℕ
+textStart i = i * rowSize + 30
 
 -- the lines of the first n rows
 unfoldable pub decodeTable : ℕ → List ℕ → List Line

@@ -21,6 +21,9 @@ CountsFit counts = Upto 16 (λ i. getD counts i 0 ≤ 1000000)
 abbrev pub recordSize : ℕ
 recordSize = 67
 
+abbrev pub countsSize : ℕ
+countsSize = 64
+
 unfoldable pub recordBytes : Replica → List ℕ
 recordBytes r = bytesOf 1 (r .site) ++ (bytesOf 2 (r .rows) ++ flat (bytesOf 4) (r .counts))
 
@@ -28,9 +31,13 @@ recordBytes r = bytesOf 1 (r .site) ++ (bytesOf 2 (r .rows) ++ flat (bytesOf 4) 
 abbrev pub countFirst : List ℕ → ℕ
 countFirst s = numAt 4 s 0
 
+-- the "sixteen counts" at the front
+abbrev pub countsOf : List ℕ → List ℕ
+countsOf s = rowsOf countFirst 4 16 s
+
 -- the record of 67 bytes
 unfoldable pub recordOf : List ℕ → Replica
-recordOf s = record { site = getD s 0 0; rows = numAt 2 s 1; counts = rowsOf countFirst 4 16 (drop 3 s) }
+recordOf s = record { site = getD s 0 0; rows = numAt 2 s 1; counts = countsOf (drop 3 s) }
 
 -- the record of no host: site 0, so it is never sound
 abbrev pub nobody : Replica

@@ -10,8 +10,8 @@ pub mod record;
 pub mod row;
 pub mod table;
 
-// 01's 'Numbers that bound it': the table is 512 rows of 78 bytes, the record's bytes are 67, there are
-// 16 sites, and patch numbers and counts end at 1,000,000.
+// 01's 'Numbers that bound it': the table is 512 rows of 78 bytes, the record's bytes are 67 and those of
+// its counts 64, there are 16 sites, and patch numbers and counts end at 1,000,000.
 pub const ROWS: usize = 512;
 
 pub const ROW: usize = 78;
@@ -19,6 +19,8 @@ pub const ROW: usize = 78;
 pub const TABLE: usize = ROWS * ROW;
 
 pub const RECORD: usize = 67;
+
+pub const COUNTS: usize = 64;
 
 pub const SITES: usize = 16;
 

@@ -13,10 +13,10 @@ ghost use mathlib.Core.Path.{_≡_};
 ghost use mathlib.Core.Bool.{true};
 ghost use mathlib.Core.Logic.{_↔_};
 ghost use Prim.Native.Nat.{_≤_};
-ghost use lib.ListN.{length, drop};
-ghost use Rattle.rows.specs.Rows.{rowsOf, flat, written};
+ghost use lib.ListN.{length};
+ghost use Rattle.rows.specs.Rows.{flat, written};
 ghost use Rattle.rows.specs.Numbers.{bytesOf};
-ghost use Rattle.script.specs.Records.{countOf, CountsFit, recordSize, countFirst, nobody, recordRead, recordWritten};
+ghost use Rattle.script.specs.Records.{countOf, CountsFit, recordSize, countsSize, countsOf, nobody, recordRead, recordWritten};
 
 // Reads the record of 67 bytes. Bytes of any other length give the record of no host, site 0, which
 // is never sound.
@@ -24,7 +24,7 @@ pub fn read(s: &[u8]) -> Replica
     ensures { λ r. ⌜ r ≡ recordRead (now (s .entry)) ⌝ }
 {
     if s.len() == RECORD {
-        let counts = read_counts(s);
+        let counts = read_counts(&s[3..]);
         Replica {
             site: s[0],
             rows: number_2(s, 1),
@@ -57,14 +57,15 @@ fn nobody() -> Replica
     }
 }
 
-fn read_counts(s: &[u8]) -> [u32; SITES]
-    requires { ⌜ length (now s) ≡ recordSize ⌝ }
-    ensures { λ r. ⌜ r ≡ rowsOf countFirst 4 16 (drop 3 (now (s .entry))) ⌝ }
+// Reads the sixteen counts at the front.
+pub fn read_counts(s: &[u8]) -> [u32; SITES]
+    requires { ⌜ countsSize ≤ length (now s) ⌝ }
+    ensures { λ r. ⌜ r ≡ countsOf (now (s .entry)) ⌝ }
 {
     let mut counts = [0; SITES];
     let mut i = 0;
     while i < SITES {
-        counts[i] = number_4(s, 3 + 4 * i);
+        counts[i] = number_4(s, 4 * i);
         i += 1;
     }
     counts

@@ -13,7 +13,7 @@ ghost use Prim.Native.Nat.{_+_, _*_, _≤_, _<_};
 ghost use lib.ListN.{length};
 ghost use Rattle.position.specs.Positions.{idsOf};
 ghost use Rattle.rows.specs.Rows.{putIn, takeOut, within};
-ghost use Rattle.script.specs.Lines.{tableSize, rowSize, decodeTable, textOf, textLengthOf, rowAt};
+ghost use Rattle.script.specs.Lines.{tableSize, rowSize, decodeTable, textOf, textStart, textLengthOf, rowAt};
 ghost use Rattle.script.specs.Sound.{Sound};
 ghost use Rattle.script.specs.Find.{findIn};
 
@@ -67,12 +67,20 @@ pub fn take_row(table: &mut [u8], rows: usize, k: usize)
     take_out(&mut table[0..end], k * ROW, ROW);
 }
 
+// Where in the table the text of row k begins.
+pub fn text_start(k: usize) -> usize
+    requires { ⌜ k < 512 ⌝ }
+    ensures { λ start. ⌜ start ≡ textStart k ⌝ }
+{
+    k * ROW + 30
+}
+
 // The text of row k, as a part of the table.
 pub fn text<'a>(table: &'a [u8], k: usize) -> &'a [u8]
     requires { ⌜ (length (now table) ≡ tableSize) × ((k < 512) × (textLengthOf (rowAt (now table) k) ≤ 48)) ⌝ }
     ensures { λ t. ⌜ now t ≡ textOf (rowAt (now (table .entry)) k) ⌝ }
 {
-    let start = k * ROW + 30;
+    let start = text_start(k);
     let end = start + (table[k * ROW + 29] as usize);
     &table[start..end]
 }

@@ -4,17 +4,17 @@ use Prim.Native.Nat.{ℕ}
 use native.Mathlib.Omega.{arith}
 use borrow.Author.Needs.{needs}
 use borrow.Author.Tests.{eq-eqb, ne-eqb}
-use mathlib.Core.Path.{_≡_, _∙_}
+use mathlib.Core.Path.{_≡_, ap, _∙_}
 use mathlib.Core.List.{List}
 use lib.ListN.{length, drop, getD}
 use Rattle.rows.specs.Numbers.{numAt}
-use Rattle.rows.specs.Rows.{rowsOf}
-use Rattle.script.specs.Records.{countFirst, nobody, recordOf, recordRead}
+use Rattle.rows.proofs.Bytes.{rest-lent}
+use Rattle.script.specs.Records.{countsOf, nobody, recordOf, recordRead}
 use Rattle.script.proofs.record.read.Statement.{statement}
 use Rattle.script.proofs.record.read.Tie as tie
 
 read-whole : (s : List ℕ) (rows : ℕ) (counts : List ℕ) → length s ≡ 67 → rows ≡ numAt 2 s 1
-    → counts ≡ rowsOf countFirst 4 16 (drop 3 s)
+    → counts ≡ countsOf (drop 3 s)
     → record { site = getD s 0 0; rows = rows; counts = counts } ≡ recordRead s
 unfolding recordRead recordOf
 read-whole s rows counts h e f = rw (eq-eqb (length s) 67 h, e, f)
@@ -27,13 +27,17 @@ pub read-spec : {M : Type 1} → statement M
 read-spec =
     tie.close
     (tie.spec
-    (λ c κs. omega arith)
+    (λ c. search needs)
+    (λ c. search needs)
+    (λ c. search needs)
+    (λ c κs. search needs)
     (λ c. search needs)
     (λ c κs. search needs)
     (λ c κs. tt)
     (λ c.
-    let s = c .before .before .before .before .before .args .s .now in
+    let s = c .before .before .before .before .before .before .args .s .now in
     let counts = c .before .before .read-counts in
     let rows = c .number-2 in
-    read-whole s (rows .result) (counts .result) (omega arith) (rows .ensures) (counts .ensures))
+    read-whole s (rows .result) (counts .result) (omega arith) (rows .ensures)
+    (counts .ensures ∙ ap countsOf (rest-lent 3 s)))
     (λ c. c .nobody .ensures ∙ read-nothing (c .before .before .before .args .s .now) (c .before .if1 .left)))

@@ -1,0 +1,4 @@
+pub mod Output
+pub mod Text
+pub mod Listing
+pub mod Steps
