@@ -1,6 +1,7 @@
 # The script replica for a C programmer. `make` builds the library and the listing program, `make demo` runs
-# nine hosts' mornings, `make test` is the gate, `make install PREFIX=..` copies header, library, listing
-# program and pkg-config file. All need the Rattle kit, whose command is `rt`: it proves before it builds.
+# one test nine times on three hosts, `make test` is the gate, `make install PREFIX=..` copies header, library,
+# listing program and pkg-config file. All need the Rattle kit, whose command is `rt`: it proves before it
+# builds.
 
 PREFIX ?= /usr/local
 DESTDIR ?=
@@ -16,7 +17,7 @@ DEMO = target/nine_runs
 
 all: $(LIBRARY) $(LISTING)
 
-# what a crate is proved from: `rt` itself sees what has changed
+# what is proved before it is built: where one of these is newer, it is proved again
 SOURCES = crates.txt $(shell find crates -type f)
 
 $(LIBRARY): $(SOURCES)
@@ -41,7 +42,7 @@ install: all
 	install -m 644 $(HEADER) "$(DESTDIR)$(PREFIX)/include/script_replica.h"
 	install -m 644 $(LIBRARY) "$(DESTDIR)$(PREFIX)/lib/libscript_replica.a"
 	install -m 755 $(LISTING) "$(DESTDIR)$(PREFIX)/bin/listing"
-	sed -e 's|@PREFIX@|$(PREFIX)|' -e 's|@VERSION@|$(VERSION)|' script_replica.pc.in > target/script_replica.pc
+	sed -e 's|@PREFIX@|$(abspath $(PREFIX))|' -e 's|@VERSION@|$(VERSION)|' script_replica.pc.in > target/script_replica.pc
 	install -m 644 target/script_replica.pc "$(DESTDIR)$(PREFIX)/lib/pkgconfig/script_replica.pc"
 
 clean:

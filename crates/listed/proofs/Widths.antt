@@ -65,14 +65,12 @@ joined-most (i ∷ ids) proper =
     let rest = joined-most ids (λ k h. proper (suc k) (omega arith)) in
     simp length-append (omega arith)
 
+-- and without that of the first
 position-most : (ids : List Identifier) → ((k : ℕ) → k < length ids → Proper (getD ids k pad))
     → length (positionText ids) ≤ 9 * length ids
-unfolding positionText
+unfolding positionText flat
 position-most [] proper = omega arith
-position-most (i ∷ ids) proper =
-    let first = identifier-most i (proper 0 (omega arith)) in
-    let rest = joined-most ids (λ k h. proper (suc k) (omega arith)) in
-    simp length-append (omega arith)
+position-most (i ∷ ids) proper = omega (arith, joined-most (i ∷ ids) proper)
 
 pub row-line-most : (counts : List ℕ) (place : ℕ) (l : Line) → place < 1000 → SoundLine counts l
     → length (rowLine place l) ≤ 134
