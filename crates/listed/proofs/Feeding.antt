@@ -21,21 +21,21 @@ use Rattle.replica.proofs.Received.{receive-sound}
 use Rattle.replica.proofs.Started.{empty-sound}
 use Rattle.listed.specs.Output.{Output, behind}
 use Rattle.listed.specs.Text.{patchLine, fromPlace}
-use Rattle.listed.specs.Listing.{patchesIn, firstIn, fresh, fed, lastOf}
+use Rattle.listed.specs.Listing.{patchesIn, firstIn, fresh, fed, afterAll}
 use Rattle.listed.specs.Steps.{Feeds, outcomesOf, patchLines}
 use Rattle.listed.proofs.Behind.{behind-nothing, is-left}
 use Rattle.listed.proofs.Cuts.{no-patches, patches-from}
 
 -- What is still to come, and what has been put out.
 pub record Rest (input : List ℕ) (was : Output) (o : Outcome) (outcomes : List Outcome) (place : ℕ) (is : Output) : Type 0 where
-  pub last : lastOf o outcomes ≡ lastOf fresh (outcomesOf input)
+  pub last : afterAll o outcomes ≡ afterAll fresh (outcomesOf input)
   pub shown : behind (patchLines place outcomes) is ≡ behind (patchLines 1 (outcomesOf input)) was
 
 module _ {input : List ℕ} {was : Output} {o : Outcome} {place : ℕ} {is : Output} where
   -- one comes, and its line is put out
   comes : {next : Outcome} {outcomes : List Outcome} {then : Output} → Rest input was o (next ∷ outcomes) place is
       → then ≡ behind (patchLine place (next .answer)) is → Rest input was next outcomes (place + 1) then
-  unfolding lastOf fromPlace
+  unfolding afterAll fromPlace
   comes {next} {outcomes} {then} rest put =
       let line = patchLine place (next .answer) in
       let more = patchLines (suc place) outcomes in
@@ -46,7 +46,7 @@ module _ {input : List ℕ} {was : Output} {o : Outcome} {place : ℕ} {is : Out
 
   -- none comes
   all-come : Rest input was o [] place is → Sound (o .replica) (o .table) → Feeds input (o .replica) (o .table) was is
-  unfolding lastOf fromPlace
+  unfolding afterAll fromPlace
   all-come rest sound =
       record {
         replica = ap (λ (l : Outcome). l .replica) (rest .last);

@@ -27,7 +27,7 @@ use Rattle.replica.specs.Receive.{receiveChecks, receiveCall}
 use Rattle.replica.proofs.Received.{receive-sound, receive-counts}
 use Rattle.listed.specs.Output.{behind}
 use Rattle.listed.specs.Text.{ascii, patchLine, fromPlace, rowLine, rowsText}
-use Rattle.listed.specs.Listing.{mostInput, firstIn, cut, patchesIn, fresh, fed, lastOf, linesIn, report, listing}
+use Rattle.listed.specs.Listing.{mostInput, firstIn, cut, patchesIn, fresh, fed, afterAll, linesIn, report, listing}
 use Rattle.listed.proofs.Behind.{behind-whole}
 use Rattle.listed.proofs.Cuts.{none-length, some-length}
 use Rattle.listed.proofs.Feeding.{fresh-sound}
@@ -121,16 +121,16 @@ fed-each P call d o (p ∷ ps) i h =
     by-answer next true rest here behind (suc i) h = absurd (omega arith)
     by-answer next false rest here behind (suc i) h = behind i (omega arith)
 
-fed-good : (o : Outcome) (ps : List (List ℕ)) → Good o → Good (lastOf o (fed o ps))
-unfolding fed lastOf
+fed-good : (o : Outcome) (ps : List (List ℕ)) → Good o → Good (afterAll o (fed o ps))
+unfolding fed afterAll
 fed-good o [] good = good
 fed-good o (p ∷ ps) good =
     let next = receiveCall (o .replica) (o .table) p in
     let kept = receive-good o p good in
     by-answer (eqb (next .answer) 2) next (fed next ps) kept (fed-good next ps kept)
   where
-    by-answer : (b : Bool) (next : Outcome) (rest : List Outcome) → Good next → Good (lastOf next rest)
-        → Good (lastOf next (cond b [] rest))
+    by-answer : (b : Bool) (next : Outcome) (rest : List Outcome) → Good next → Good (afterAll next rest)
+        → Good (afterAll next (cond b [] rest))
     by-answer true next rest good last = good
     by-answer false next rest good last = last
 
@@ -160,12 +160,12 @@ good-rows : (o : Outcome) → Good o → length (rowsText (linesIn o)) ≤ 68617
 good-rows o good = rows-most (o .replica .counts) (linesIn o) (sound-lines (o .replica) (o .table) (good .sound))
 
 report-most : (outcomes : List Outcome) → length outcomes ≤ 5462
-    → ((i : ℕ) → i < length outcomes → getD outcomes i fresh .answer ≤ 15) → Good (lastOf fresh outcomes)
+    → ((i : ℕ) → i < length outcomes → getD outcomes i fresh .answer ≤ 15) → Good (afterAll fresh outcomes)
     → length (report outcomes) ≤ 131072
 unfolding report
 report-most outcomes h each good =
     let patches = answers-most outcomes h each in
-    let rows = good-rows (lastOf fresh outcomes) good in
+    let rows = good-rows (afterAll fresh outcomes) good in
     rw length-append (omega arith)
 
 pub longest : (input : List ℕ) → length (listing input) ≤ 131072

@@ -42,9 +42,9 @@ fed o (p ∷ ps) =
     next ∷ cond (eqb (next .answer) 2) [] (fed next ps)
 
 -- what it comes to in the end
-unfoldable pub lastOf : Outcome → List Outcome → Outcome
-lastOf o [] = o
-lastOf o (next ∷ rest) = lastOf next rest
+unfoldable pub afterAll : Outcome → List Outcome → Outcome
+afterAll o [] = o
+afterAll o (next ∷ rest) = afterAll next rest
 
 abbrev pub linesIn : Outcome → List Line
 linesIn o = decodeTable (o .replica .rows) (o .table)
@@ -53,7 +53,7 @@ linesIn o = decodeTable (o .replica .rows) (o .table)
 unfoldable pub report : List Outcome → List ℕ
 report outcomes =
     fromPlace (λ (place : ℕ) (o : Outcome). patchLine place (o .answer)) 1 outcomes ++
-    rowsText (linesIn (lastOf fresh outcomes))
+    rowsText (linesIn (afterAll fresh outcomes))
 
 -- "(longer: it writes `too long` and stops)"
 unfoldable pub listing : List ℕ → List ℕ

@@ -8,7 +8,7 @@ use Rattle.script.specs.Sound.{Sound}
 use Rattle.effect.specs.Held.{Outcome}
 use Rattle.listed.specs.Output.{Output, behind}
 use Rattle.listed.specs.Text.{patchLine, fromPlace}
-use Rattle.listed.specs.Listing.{patchesIn, fresh, fed, lastOf}
+use Rattle.listed.specs.Listing.{patchesIn, fresh, fed, afterAll}
 
 -- what the fresh replica comes to, patch after patch
 abbrev pub outcomesOf : List ℕ → List Outcome
@@ -21,7 +21,7 @@ patchLines place outcomes = fromPlace (λ (k : ℕ) (o : Outcome). patchLine k (
 -- all patches of the input are fed: record and table are the last ones, and sound, and the line of each
 -- patch is put in
 pub record Feeds (input : List ℕ) (r : Replica) (table : List ℕ) (was is : Output) : Type 0 where
-  pub replica : r ≡ lastOf fresh (outcomesOf input) .replica
-  pub held : table ≡ lastOf fresh (outcomesOf input) .table
+  pub replica : r ≡ afterAll fresh (outcomesOf input) .replica
+  pub held : table ≡ afterAll fresh (outcomesOf input) .table
   pub sound : Sound r table
   pub shown : is ≡ behind (patchLines 1 (outcomesOf input)) was

@@ -11,7 +11,7 @@ use Rattle.script.specs.declared.Replica.{Replica}
 use Rattle.script.specs.Lines.{decodeTable}
 use Rattle.listed.specs.Output.{Output, behind}
 use Rattle.listed.specs.Text.{ascii, rowsText}
-use Rattle.listed.specs.Listing.{mostInput, fresh, lastOf, linesIn, listing, report}
+use Rattle.listed.specs.Listing.{mostInput, fresh, afterAll, linesIn, listing, report}
 use Rattle.listed.specs.Steps.{Feeds, outcomesOf, patchLines}
 use Rattle.listed.proofs.Behind.{and-then}
 use Rattle.listed.proofs.list.Statement.{statement}
@@ -28,7 +28,7 @@ reported : {input : List ℕ} {r : Replica} {table : List ℕ} {was is then : Ou
 unfolding listing report
 reported {input} {r} {table} {was} {is} {then} fits feeds shown =
     let patches = patchLines 1 (outcomesOf input) in
-    let rows = rowsText (linesIn (lastOf fresh (outcomesOf input))) in
+    let rows = rowsText (linesIn (afterAll fresh (outcomesOf input))) in
     let same : rowsText (decodeTable (r .rows) table) ≡ rows =
     λ d. rowsText (decodeTable (feeds .replica d .rows) (feeds .held d)) in
     rw (le-ltb mostInput (length input) fits)
