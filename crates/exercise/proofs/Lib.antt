@@ -1,0 +1,17 @@
+pub mod Tied
+pub mod Received
+pub mod Answered
+pub mod Members
+pub mod Struck
+pub mod Strikers
+pub mod Equal
+pub mod History
+pub mod Holds
+pub mod Tallied
+pub mod Exercised
+pub mod Shared
+pub mod Unrefused
+pub mod Aims
+pub mod Progressed
+pub mod Naming
+pub mod Concluded

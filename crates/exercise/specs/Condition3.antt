@@ -1,0 +1,71 @@
+-- Condition 3, and the two facts that hold under its premises (01, 'Answer numbers'), of an exercise as it stands.
+-- All is said of the bytes of records, tables and patches, and of the calls' own definitions.
+-- Assumes nothing.
+use Prim.Native.Nat.{ℕ, _+_, _-_, _≤_}
+use mathlib.Core.Path.{_≡_}
+use mathlib.Core.Logic.{_↔_, _⊎_}
+use mathlib.Core.List.{List, List·Memᴰ}
+use lib.ListN.{length, drop, getD}
+use Rattle.rows.specs.Rows.{flat}
+use Rattle.script.specs.Lines.{Line, decodeTable}
+use Rattle.script.specs.Records.{countOf, recordRead}
+use Rattle.replica.specs.declared.compare.Lack.{Lack}
+use Rattle.replica.specs.Compare.{noLack}
+use Rattle.host.specs.Calls.{lacksSize, lackBytes, receiveBytes, compareBytes}
+use Rattle.exercise.specs.World.{Host, World, Site}
+use Rattle.exercise.specs.Scripts.{patchOf, Script}
+use Rattle.exercise.specs.Tally.{struckIn, insertsIn}
+use Rattle.exercise.specs.Offered.{answers}
+
+-- the counts of a host's record, and the lines of its table
+abbrev pub countsAt : Host → List ℕ
+countsAt h = recordRead (h .state) .counts
+
+abbrev pub linesAt : Host → List Line
+linesAt h = decodeTable (recordRead (h .state) .rows) (h .table)
+
+-- a patch is number n of site a
+abbrev pub Is : ℕ → ℕ → List ℕ → Type 0
+Is a n b = (patchOf b .author ≡ a) × (patchOf b .number ≡ n)
+
+-- a host has received number n of site a
+abbrev pub Has : Host → ℕ → ℕ → Type 0
+Has h a n = (b : List ℕ) × (List·Memᴰ b (h .received) × Is a n b)
+
+-- "patches 1 to that count of that site have been received": exactly these, and each is one patch
+pub record Counted (h : Host) : Type 0 where
+  pub named : (a : Site) (n : ℕ) → Has h (a .number) n ↔ ((1 ≤ n) × (n ≤ countOf (countsAt h) (a .number)))
+  pub once : (a n : ℕ) (b c : List ℕ) → List·Memᴰ b (h .received) → List·Memᴰ c (h .received) → Is a n b → Is a n c → b ≡ c
+
+-- "where counts differ, they name exactly the patches that one has and the other lacks": what comparing the counts
+-- of two records gives
+pub record Named (h k : Host) : Type 0 where
+  pub lacks : List Lack
+  pub compared : (result : List ℕ) → length result ≡ lacksSize
+      → compareBytes (drop 3 (h .state)) (drop 3 (k .state)) result ≡ record { answer = 0; result = flat lackBytes lacks }
+  pub first : (a : Site) (n : ℕ) → let l = getD lacks (a .number - 1) noLack in
+      ((l .more ≡ 1) × ((l .first ≤ n) × (n ≤ l .last))) ↔ (Has h (a .number) n × (Has k (a .number) n → ⊥))
+  pub second : (a : Site) (n : ℕ) → let l = getD lacks (a .number - 1) noLack in
+      ((l .more ≡ 2) × ((l .first ≤ n) × (n ≤ l .last))) ↔ (Has k (a .number) n × (Has h (a .number) n → ⊥))
+
+pub record Condition3 (w : World) : Type 0 where
+  -- "Each script is then exactly the lines whose insert it has received and whose delete it hasn't, in position order."
+  pub script : (s : Site) → Script (w .host (s .number) .received) (linesAt (w .host (s .number)))
+  pub counted : (s : Site) → Counted (w .host (s .number))
+  -- "Two replicas with equal received-counts hold equal tables"
+  pub together : (s t : Site) → countsAt (w .host (s .number)) ≡ countsAt (w .host (t .number))
+      → w .host (s .number) .table ≡ w .host (t .number) .table
+  pub named : (s t : Site) → Named (w .host (s .number)) (w .host (t .number))
+  -- "rows held plus different lines struck equals inserts done"
+  pub tally : (s : Site) → length (linesAt (w .host (s .number))) + length (struckIn (w .host (s .number) .received))
+      ≡ insertsIn (w .host (s .number) .received)
+  -- "If B lacks patches that A holds and is offered all of them once in any order, B takes at least one of them unless
+  -- it answers 7."
+  pub progress : (a b : Site) → let has = w .host (a .number) .received in let h = w .host (b .number) in
+      (p : List ℕ) → List·Memᴰ p has → (List·Memᴰ p (h .received) → ⊥)
+      → (offered : List (List ℕ)) → ((c : List ℕ) → List·Memᴰ c has → (List·Memᴰ c (h .received) → ⊥) → List·Memᴰ c offered)
+      → (n : ℕ) × (List·Memᴰ n (answers (h .state) (h .table) offered) × ((n ≡ 0) ⊎ ((n ≡ 15) ⊎ (n ≡ 7))))
+  -- answers that no patch of the exercise gets: record and table stay sound, no patch is malformed, none is ahead of
+  -- its own site, and no place is taken twice
+  pub never : (s : Site) (b : List ℕ) → List·Memᴰ b (w .made) → let h = w .host (s .number) in
+      (n : ℕ) → receiveBytes (h .state) (h .table) b .answer ≡ n → (n ≡ 1) ⊎ ((n ≡ 2) ⊎ ((n ≡ 3) ⊎ (n ≡ 6))) → ⊥
