@@ -51,8 +51,12 @@ module _ (w : World) (fair : Fair w) where
         record {
           named = λ a n.
               subst (λ (counts : List ℕ). Has h (a .number) n ↔ ((1 ≤ n) × (n ≤ countOf counts (a .number)))) counts-there (
-                (λ told. counted (s .number) (s .least) (s .most) (h .received) (fair .kept s .history) (told .0) (told .1 .0) (a .number) n (a .least) (told .1 .1)),
-                (λ range. received (s .number) (s .least) (s .most) (h .received) (fair .kept s .history) (a .number) n (a .least) (a .most) (range .0) (range .1)),
+                (λ told.
+                    counted (s .number) (s .least) (s .most) (h .received) (fair .kept s .history)
+                    (told .0) (told .1 .0) (a .number) n (a .least) (told .1 .1)),
+                (λ range.
+                    received (s .number) (s .least) (s .most) (h .received) (fair .kept s .history)
+                    (a .number) n (a .least) (a .most) (range .0) (range .1)),
               );
           once = λ a n b c in-b in-c is-b is-c.
               let made = fair .kept s .from b in-b in
@@ -104,11 +108,9 @@ module _ (w : World) (fair : Fair w) where
             subst (λ (lines : List Line). length lines + length (struckIn (h s .received)) ≡ insertsIn (h s .received)) (lines-there s)
             (tally (s .number) (s .least) (s .most) (h s .received) (fair .kept s .history) (all-aimed w fair s));
         progress = λ a b. progress w fair a b;
-        never = λ s b m n e is.
-            ⊎-elim (λ (one : n ≡ 1). never-unsound w fair s b m (e ∙ one))
-            (λ rest. ⊎-elim (λ (two : n ≡ 2). never-malformed w fair s b m (e ∙ two))
-            (λ rest. ⊎-elim (λ (three : n ≡ 3). never-own-ahead w fair s b m (e ∙ three))
-            (λ (six : n ≡ 6). never-taken w fair s b m (e ∙ six)) rest) rest) is;
+        never = λ s b m.
+            ⊎-elim (never-unsound w fair s b m)
+            (⊎-elim (never-malformed w fair s b m) (⊎-elim (never-own-ahead w fair s b m) (never-taken w fair s b m)));
       }
 
 -- After any calls, whatever they were answered.

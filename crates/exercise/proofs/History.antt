@@ -57,17 +57,20 @@ module _ (site : ℕ) (least : 1 ≤ site) (most : site ≤ 16) where
   none-counted a some few = getD-replicate {A = ℕ} 16 (a - 1) 0 0 (omega arith)
 
   -- the count of the author is one more, that of any other site as it was
-  count-own : (b : List ℕ) (g : List (List ℕ)) → History site (b ∷ g) → count (b ∷ g) (patchOf b .author) ≡ suc (count g (patchOf b .author))
+  count-own : (b : List ℕ) (g : List (List ℕ)) → History site (b ∷ g)
+      → count (b ∷ g) (patchOf b .author) ≡ suc (count g (patchOf b .author))
   unfolding after effect
   count-own b g (h, step) =
-      raised-own (after site g .counts) (patchOf b .author) (after-sound g h .size) (step .takes .patch .head .author-least) (step .takes .patch .head .author-most)
+      let head = step .takes .patch .head in
+      raised-own (after site g .counts) (patchOf b .author) (after-sound g h .size) (head .author-least) (head .author-most)
 
   count-other : (b : List ℕ) (g : List (List ℕ)) → History site (b ∷ g) → (a : ℕ) → 1 ≤ a → (a ≡ patchOf b .author → ⊥)
       → count (b ∷ g) a ≡ count g a
   unfolding after effect
   count-other b g (h, step) a some other =
-      raised-other (after site g .counts) (patchOf b .author) (after-sound g h .size) (step .takes .patch .head .author-least) (step .takes .patch .head .author-most)
-      (a - 1) (λ e. other (omega (arith, step .takes .patch .head .author-least)))
+      let head = step .takes .patch .head in
+      raised-other (after site g .counts) (patchOf b .author) (after-sound g h .size) (head .author-least) (head .author-most)
+      (a - 1) (λ e. other (omega (arith, head .author-least)))
 
   -- counts only rise
   pub count-rises : (b : List ℕ) (g : List (List ℕ)) → History site (b ∷ g) → (a : ℕ) → 1 ≤ a → count g a ≤ count (b ∷ g) a
@@ -77,7 +80,8 @@ module _ (site : ℕ) (least : 1 ≤ site) (most : site ≤ 16) where
       (λ other. omega (arith, count-other b g h a some other))
 
   -- a patch received is counted
-  pub counted : (g : List (List ℕ)) → History site g → (b : List ℕ) → List·Memᴰ b g → (a n : ℕ) → 1 ≤ a → Is a n b → (1 ≤ n) × (n ≤ count g a)
+  pub counted : (g : List (List ℕ)) → History site g → (b : List ℕ) → List·Memᴰ b g → (a n : ℕ) → 1 ≤ a → Is a n b
+      → (1 ≤ n) × (n ≤ count g a)
   counted [] h b in-g a n some is = absurd (List·Memᴰ·not-nil in-g)
   counted (c ∷ g) (h, step) b in-g a n some is =
       ⊎-elim
@@ -102,7 +106,9 @@ module _ (site : ℕ) (least : 1 ≤ site) (most : site ≤ 16) where
       (λ own.
       let risen : count (c ∷ g) a ≡ suc (count g a) = subst (λ (s : ℕ). count (c ∷ g) s ≡ suc (count g s)) (sym own) (count-own c g (h, step)) in
       by-cases (ℕ-discrete n (suc (count g a)))
-      (λ (new : n ≡ suc (count g a)). (c, (List·Memᴰ·head refl, (sym own, step .takes .next ∙ ap (λ (s : ℕ). suc (count g s)) (sym own) ∙ sym new))))
+      (λ (new : n ≡ suc (count g a)).
+      let number : patchOf c .number ≡ n = step .takes .next ∙ ap (λ (s : ℕ). suc (count g s)) (sym own) ∙ sym new in
+      (c, (List·Memᴰ·head refl, (sym own, number))))
       (λ (old : n ≡ suc (count g a) → ⊥). older (received g h a n some few first (omega arith))))
       (λ other. older (received g h a n some few first (omega (arith, count-other c g (h, step) a some other))))
     where

@@ -22,7 +22,7 @@ use Rattle.replica.specs.Compare.{noLack, lackOf, compareChecks, compareCall}
 use Rattle.replica.proofs.Compared.{together-at}
 use Rattle.host.specs.Calls.{lacksSize, lackBytes, ComparedBytes, compareBytes}
 use Rattle.exercise.specs.World.{Host, Site}
-use Rattle.exercise.specs.Condition3.{countsAt, Has, Counted, Named}
+use Rattle.exercise.specs.Condition3.{countsAt, Has, Counted, lacksOf, Named}
 
 -- What two counts tell: the numbers above the smaller, up to the larger.
 module _ (a b n : ℕ) where
@@ -84,7 +84,7 @@ module _ (h k : Host) (size : length (h .state) ≡ recordSize) (size′ : lengt
   call = passed-done _ _ (compareChecks (countsAt h) (countsAt k)) passed
 
   compared : (result : List ℕ) → length result ≡ lacksSize
-      → compareBytes (drop 3 (h .state)) (drop 3 (k .state)) result ≡ record { answer = 0; result = flat lackBytes lacks }
+      → compareBytes (drop 3 (h .state)) (drop 3 (k .state)) result ≡ record { answer = 0; result = flat lackBytes (lacksOf h k) }
   unfolding compareBytes firstOf
   compared result room =
       let first = drop 3 (h .state) in
@@ -94,20 +94,23 @@ module _ (h k : Host) (size : length (h .state) ≡ recordSize) (size′ : lengt
       let stays : ℕ → ComparedBytes = λ n. record { answer = n; result = result } in
       rw (eq-eqb (length first) countsSize first-size, eq-eqb (length second) countsSize second-size)
       (rw (eq-eqb (length result) lacksSize room, counts-there (h .state) size, counts-there (k .state) size′)
-      (passed-done stays (record { answer = 0; result = flat lackBytes (compareCall (countsAt h) (countsAt k) .sites) })
-      (compareChecks (countsAt h) (countsAt k)) passed
-      ∙ ap (λ (c : Compared). record { answer = 0; result = flat lackBytes (c .sites) }) call))
+      (passed-done stays (record { answer = 0; result = flat lackBytes (lacksOf h k) })
+      (compareChecks (countsAt h) (countsAt k)) passed))
 
-  lack-at : (a : Site) → getD lacks (a .number - 1) noLack ≡ lackOf (countOf (countsAt h) (a .number)) (countOf (countsAt k) (a .number))
-  lack-at a = together-at lackOf (countsAt h) (countsAt k) (a .number - 1) 0 0 noLack (omega (arith, a .least, a .most)) (omega (arith, a .least, a .most))
+  lack-at : (a : Site) → getD (lacksOf h k) (a .number - 1) noLack ≡ lackOf (countOf (countsAt h) (a .number)) (countOf (countsAt k) (a .number))
+  lack-at a =
+      ap (λ (c : Compared). getD (c .sites) (a .number - 1) noLack) call
+      ∙ together-at lackOf (countsAt h) (countsAt k) (a .number - 1) 0 0 noLack (omega (arith, a .least, a .most)) (omega (arith, a .least, a .most))
+
+  abbrev count : Host → Site → ℕ
+  count x a = countOf (countsAt x) (a .number)
 
   pub names : Counted h → Counted k → Named h k
   names counted counted′ =
       record {
-        lacks = lacks;
         compared = compared;
-        first = λ a n. rw (lack-at a) (both (lack-first (countOf (countsAt h) (a .number)) (countOf (countsAt k) (a .number)) n) (between h k counted counted′ a n));
-        second = λ a n. rw (lack-at a) (both (lack-second (countOf (countsAt h) (a .number)) (countOf (countsAt k) (a .number)) n) (between k h counted′ counted a n));
+        first = λ a n. rw (lack-at a) (both (lack-first (count h a) (count k a) n) (between h k counted counted′ a n));
+        second = λ a n. rw (lack-at a) (both (lack-second (count h a) (count k a) n) (between k h counted′ counted a n));
       }
     where
       both : {A B C : Type 0} → A ↔ B → B ↔ C → A ↔ C

@@ -15,16 +15,13 @@ use Rattle.host.specs.Calls.{Called, receiveBytes}
 use Rattle.exercise.specs.World.{Host, World, Site}
 use Rattle.exercise.specs.Scripts.{patchOf}
 use Rattle.exercise.specs.Offered.{answers}
+use Rattle.exercise.specs.Condition3.{Moves}
 use Rattle.exercise.proofs.Received.{receive-stays}
 use Rattle.exercise.proofs.Answered.{refused-because}
 use Rattle.exercise.proofs.History.{after, History, Step, countIn, after-sound, received}
 use Rattle.exercise.proofs.Exercised.{Fair}
 use Rattle.exercise.proofs.Shared.{has, is-counted}
 use Rattle.exercise.proofs.Unrefused.{never-unsound, never-malformed, never-own-ahead, never-taken}
-
--- the patch is taken, or there is no room
-abbrev pub Moves : ℕ → Type 0
-Moves n = (n ≡ 0) ⊎ ((n ≡ 15) ⊎ (n ≡ 7))
 
 moves? : (n : ℕ) → Moves n ⊎ (Moves n → ⊥)
 moves? n =

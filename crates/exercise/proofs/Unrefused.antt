@@ -147,7 +147,9 @@ module _ (w : World) (fair : Fair w) where
           has-it q k =
               let q-made = fair .kept maker-site .from q (then .earlier q k) in
               let of = fair .authored q q-made in
-              let counts = counted a (maker-site .least) (maker-site .most) (then .before) (then .history) q k (patchOf q .author) (patchOf q .number) (of .least) (refl, refl) in
+              let counts =
+              counted a (maker-site .least) (maker-site .most) (then .before) (then .history) q k
+              (patchOf q .author) (patchOf q .number) (of .least) (refl, refl) in
               let knew : patchOf b .before ≡ after a (then .before) .counts = then .step .own refl .before in
               let covered = covers (patchOf q .author - 1) (omega (arith, of .least, of .most)) in
               let known : patchOf q .number ≤ getD (patchOf b .before) (patchOf q .author - 1) 0 =

@@ -10,9 +10,9 @@ use Rattle.rows.specs.Rows.{flat}
 use Rattle.script.specs.Lines.{Line, decodeTable}
 use Rattle.script.specs.Records.{countOf, recordRead}
 use Rattle.replica.specs.declared.compare.Lack.{Lack}
-use Rattle.replica.specs.Compare.{noLack}
+use Rattle.replica.specs.Compare.{noLack, compareCall}
 use Rattle.host.specs.Calls.{lacksSize, lackBytes, receiveBytes, compareBytes}
-use Rattle.exercise.specs.World.{Host, World, Site}
+use Rattle.exercise.specs.World.{Host, World, Site, hostOf}
 use Rattle.exercise.specs.Scripts.{patchOf, Script}
 use Rattle.exercise.specs.Tally.{struckIn, insertsIn}
 use Rattle.exercise.specs.Offered.{answers}
@@ -38,34 +38,47 @@ pub record Counted (h : Host) : Type 0 where
   pub once : (a n : ℕ) (b c : List ℕ) → List·Memᴰ b (h .received) → List·Memᴰ c (h .received) → Is a n b → Is a n c → b ≡ c
 
 -- "where counts differ, they name exactly the patches that one has and the other lacks": what comparing the counts
--- of two records gives
+-- of two records gives for each site
+abbrev pub lacksOf : Host → Host → List Lack
+lacksOf h k = compareCall (countsAt h) (countsAt k) .sites
+
+-- it says of number n of site a that this side has it and the other lacks it
+abbrev pub Says : Host → Host → ℕ → Site → ℕ → Type 0
+Says h k side a n =
+    let l = getD (lacksOf h k) (a .number - 1) noLack in
+    (l .more ≡ side) × ((l .first ≤ n) × (n ≤ l .last))
+
 pub record Named (h k : Host) : Type 0 where
-  pub lacks : List Lack
+  -- a host's call, on the counts as they stand in the records, gives just that
   pub compared : (result : List ℕ) → length result ≡ lacksSize
-      → compareBytes (drop 3 (h .state)) (drop 3 (k .state)) result ≡ record { answer = 0; result = flat lackBytes lacks }
-  pub first : (a : Site) (n : ℕ) → let l = getD lacks (a .number - 1) noLack in
-      ((l .more ≡ 1) × ((l .first ≤ n) × (n ≤ l .last))) ↔ (Has h (a .number) n × (Has k (a .number) n → ⊥))
-  pub second : (a : Site) (n : ℕ) → let l = getD lacks (a .number - 1) noLack in
-      ((l .more ≡ 2) × ((l .first ≤ n) × (n ≤ l .last))) ↔ (Has k (a .number) n × (Has h (a .number) n → ⊥))
+      → compareBytes (drop 3 (h .state)) (drop 3 (k .state)) result ≡ record { answer = 0; result = flat lackBytes (lacksOf h k) }
+  pub first : (a : Site) (n : ℕ) → Says h k 1 a n ↔ (Has h (a .number) n × (Has k (a .number) n → ⊥))
+  pub second : (a : Site) (n : ℕ) → Says h k 2 a n ↔ (Has k (a .number) n × (Has h (a .number) n → ⊥))
+
+-- the patch is taken, or there is no room
+abbrev pub Moves : ℕ → Type 0
+Moves n = (n ≡ 0) ⊎ ((n ≡ 15) ⊎ (n ≡ 7))
+
+-- the answers that no patch of the exercise gets
+abbrev pub Strange : ℕ → Type 0
+Strange n = (n ≡ 1) ⊎ ((n ≡ 2) ⊎ ((n ≡ 3) ⊎ (n ≡ 6)))
 
 pub record Condition3 (w : World) : Type 0 where
   -- "Each script is then exactly the lines whose insert it has received and whose delete it hasn't, in position order."
-  pub script : (s : Site) → Script (w .host (s .number) .received) (linesAt (w .host (s .number)))
-  pub counted : (s : Site) → Counted (w .host (s .number))
+  pub script : (s : Site) → Script (hostOf w s .received) (linesAt (hostOf w s))
+  -- "for each of the 16 sites a count"
+  pub counted : (s : Site) → Counted (hostOf w s)
   -- "Two replicas with equal received-counts hold equal tables"
-  pub together : (s t : Site) → countsAt (w .host (s .number)) ≡ countsAt (w .host (t .number))
-      → w .host (s .number) .table ≡ w .host (t .number) .table
-  pub named : (s t : Site) → Named (w .host (s .number)) (w .host (t .number))
+  pub together : (s t : Site) → countsAt (hostOf w s) ≡ countsAt (hostOf w t) → hostOf w s .table ≡ hostOf w t .table
+  pub named : (s t : Site) → Named (hostOf w s) (hostOf w t)
   -- "rows held plus different lines struck equals inserts done"
-  pub tally : (s : Site) → length (linesAt (w .host (s .number))) + length (struckIn (w .host (s .number) .received))
-      ≡ insertsIn (w .host (s .number) .received)
+  pub tally : (s : Site) → length (linesAt (hostOf w s)) + length (struckIn (hostOf w s .received)) ≡ insertsIn (hostOf w s .received)
   -- "If B lacks patches that A holds and is offered all of them once in any order, B takes at least one of them unless
   -- it answers 7."
-  pub progress : (a b : Site) → let has = w .host (a .number) .received in let h = w .host (b .number) in
+  pub progress : (a b : Site) → let has = hostOf w a .received in let h = hostOf w b in
       (p : List ℕ) → List·Memᴰ p has → (List·Memᴰ p (h .received) → ⊥)
       → (offered : List (List ℕ)) → ((c : List ℕ) → List·Memᴰ c has → (List·Memᴰ c (h .received) → ⊥) → List·Memᴰ c offered)
-      → (n : ℕ) × (List·Memᴰ n (answers (h .state) (h .table) offered) × ((n ≡ 0) ⊎ ((n ≡ 15) ⊎ (n ≡ 7))))
-  -- answers that no patch of the exercise gets: record and table stay sound, no patch is malformed, none is ahead of
-  -- its own site, and no place is taken twice
-  pub never : (s : Site) (b : List ℕ) → List·Memᴰ b (w .made) → let h = w .host (s .number) in
-      (n : ℕ) → receiveBytes (h .state) (h .table) b .answer ≡ n → (n ≡ 1) ⊎ ((n ≡ 2) ⊎ ((n ≡ 3) ⊎ (n ≡ 6))) → ⊥
+      → (n : ℕ) × (List·Memᴰ n (answers (h .state) (h .table) offered) × Moves n)
+  -- record and table stay sound, no patch is malformed, none is ahead of its own site, and no place is taken twice
+  pub never : (s : Site) (b : List ℕ) → List·Memᴰ b (w .made)
+      → let h = hostOf w s in Strange (receiveBytes (h .state) (h .table) b .answer) → ⊥

@@ -39,6 +39,9 @@ pub record Site : Type 0 where
   pub least : 1 ≤ number
   pub most : number ≤ 16
 
+abbrev pub hostOf : World → Site → Host
+hostOf w s = w .host (s .number)
+
 -- "Only these operations change them": insert and delete at a site, with any arguments, and receive at a site
 -- of a patch made so far, the k-th of them
 pub data Call : Type 0 where
@@ -78,9 +81,9 @@ offer w site patch =
 -- one call; a patch that was never made is not handed over
 unfoldable pub step : World → Call → World
 step w (insert site row text draw buffer) =
-    let h = w .host (site .number) in own w (site .number) (insertBytes (h .state) (h .table) row text draw buffer)
+    let h = hostOf w site in own w (site .number) (insertBytes (h .state) (h .table) row text draw buffer)
 step w (delete site row buffer) =
-    let h = w .host (site .number) in own w (site .number) (deleteBytes (h .state) (h .table) row buffer)
+    let h = hostOf w site in own w (site .number) (deleteBytes (h .state) (h .table) row buffer)
 step w (receive site k) = cond (ltb k (length (w .made))) (offer w (site .number) (getD (w .made) k [])) w
 
 unfoldable pub run : World → List Call → World
