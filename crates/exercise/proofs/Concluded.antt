@@ -15,11 +15,11 @@ use Rattle.exercise.specs.Tally.{struckIn, insertsIn}
 use Rattle.exercise.specs.Condition3.{countsAt, linesAt, Has, Counted, Named, Condition3}
 use Rattle.exercise.proofs.Tied.{state-size, held-read}
 use Rattle.exercise.proofs.Equal.{equal-lines}
-use Rattle.exercise.proofs.History.{after, after-sound, counted, received, once}
+use Rattle.exercise.proofs.History.{after, after-sound, counted, received}
 use Rattle.exercise.proofs.Holds.{script}
 use Rattle.exercise.proofs.Tallied.{tally}
 use Rattle.exercise.proofs.Exercised.{Fair, begin-fair, run-fair}
-use Rattle.exercise.proofs.Shared.{has, is-counted}
+use Rattle.exercise.proofs.Shared.{one-patch, has, is-counted}
 use Rattle.exercise.proofs.Unrefused.{never-unsound, never-malformed, never-own-ahead, never-taken}
 use Rattle.exercise.proofs.Aims.{all-aimed}
 use Rattle.exercise.proofs.Progressed.{progress}
@@ -47,22 +47,15 @@ module _ (w : World) (fair : Fair w) where
     its-script = subst (Script (h .received)) lines-there (script (s .number) (s .least) (s .most) (h .received) (fair .kept s .history))
 
     its-counts : Counted h
-    its-counts =
-        record {
-          named = λ a n.
-              subst (λ (counts : List ℕ). Has h (a .number) n ↔ ((1 ≤ n) × (n ≤ countOf counts (a .number)))) counts-there (
-                (λ told.
-                    counted (s .number) (s .least) (s .most) (h .received) (fair .kept s .history)
-                    (told .0) (told .1 .0) (a .number) n (a .least) (told .1 .1)),
-                (λ range.
-                    received (s .number) (s .least) (s .most) (h .received) (fair .kept s .history)
-                    (a .number) n (a .least) (a .most) (range .0) (range .1)),
-              );
-          once = λ a n b c in-b in-c is-b is-c.
-              let made = fair .kept s .from b in-b in
-              once (s .number) (s .least) (s .most) (h .received) (fair .kept s .history) a n
-              (subst (λ (x : ℕ). 1 ≤ x) (is-b .0) (fair .authored b made .least)) b c in-b in-c is-b is-c;
-        }
+    its-counts a n =
+        subst (λ (counts : List ℕ). Has h (a .number) n ↔ ((1 ≤ n) × (n ≤ countOf counts (a .number)))) counts-there (
+          (λ told.
+              counted (s .number) (s .least) (s .most) (h .received) (fair .kept s .history)
+              (told .0) (told .1 .0) (a .number) n (a .least) (told .1 .1)),
+          (λ range.
+              received (s .number) (s .least) (s .most) (h .received) (fair .kept s .history)
+              (a .number) n (a .least) (a .most) (range .0) (range .1)),
+        )
 
   -- a patch that one host has, another with the same counts has too
   same-received : (s t : Site) → countsAt (h s) ≡ countsAt (h t) → (b : List ℕ) → List·Memᴰ b (h s .received) → List·Memᴰ b (h t .received)
@@ -100,6 +93,8 @@ module _ (w : World) (fair : Fair w) where
   pub fair-condition : Condition3 w
   fair-condition =
       record {
+        made = λ s. fair .kept s .from;
+        one-patch = λ a n b c in-b in-c is-b is-c. one-patch w fair b c in-b in-c a n is-b is-c;
         script = its-script;
         counted = its-counts;
         together = equal-tables;

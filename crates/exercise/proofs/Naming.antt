@@ -54,12 +54,12 @@ between : (h k : Host) → Counted h → Counted k → (a : Site) (n : ℕ)
     → ((countOf (countsAt k) (a .number) < n) × (n ≤ countOf (countsAt h) (a .number))) ↔ (Has h (a .number) n × (Has k (a .number) n → ⊥))
 between h k counted counted′ a n = (
   (λ in-between. (
-    counted .named a n .1 (omega (arith, in-between .0), in-between .1),
-    λ has. omega (arith, in-between .0, counted′ .named a n .0 has .1),
+    counted a n .1 (omega (arith, in-between .0), in-between .1),
+    λ has. omega (arith, in-between .0, counted′ a n .0 has .1),
   )),
   (λ told.
-      let has = counted .named a n .0 (told .0) in (
-        by-cases (decLe n (countOf (countsAt k) (a .number))) (λ upto. absurd (told .1 (counted′ .named a n .1 (has .0, upto)))) (λ above. omega (arith, above)),
+      let has = counted a n .0 (told .0) in (
+        by-cases (decLe n (countOf (countsAt k) (a .number))) (λ upto. absurd (told .1 (counted′ a n .1 (has .0, upto)))) (λ above. omega (arith, above)),
         has .1,
       )),
 )

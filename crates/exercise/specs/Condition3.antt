@@ -32,10 +32,9 @@ Is a n b = (patchOf b .author ≡ a) × (patchOf b .number ≡ n)
 abbrev pub Has : Host → ℕ → ℕ → Type 0
 Has h a n = (b : List ℕ) × (List·Memᴰ b (h .received) × Is a n b)
 
--- "patches 1 to that count of that site have been received": exactly these, and each is one patch
-pub record Counted (h : Host) : Type 0 where
-  pub named : (a : Site) (n : ℕ) → Has h (a .number) n ↔ ((1 ≤ n) × (n ≤ countOf (countsAt h) (a .number)))
-  pub once : (a n : ℕ) (b c : List ℕ) → List·Memᴰ b (h .received) → List·Memᴰ c (h .received) → Is a n b → Is a n c → b ≡ c
+-- "patches 1 to that count of that site have been received": exactly these
+abbrev pub Counted : Host → Type 0
+Counted h = (a : Site) (n : ℕ) → Has h (a .number) n ↔ ((1 ≤ n) × (n ≤ countOf (countsAt h) (a .number)))
 
 -- "where counts differ, they name exactly the patches that one has and the other lacks": what comparing the counts
 -- of two records gives for each site
@@ -64,6 +63,9 @@ abbrev pub Strange : ℕ → Type 0
 Strange n = (n ≡ 1) ⊎ ((n ≡ 2) ⊎ ((n ≡ 3) ⊎ (n ≡ 6)))
 
 pub record Condition3 (w : World) : Type 0 where
+  -- "given only each other's patches": what is received was made, and over all hosts a number of a site is one patch
+  pub made : (s : Site) (b : List ℕ) → List·Memᴰ b (hostOf w s .received) → List·Memᴰ b (w .made)
+  pub one-patch : (a n : ℕ) (b c : List ℕ) → List·Memᴰ b (w .made) → List·Memᴰ c (w .made) → Is a n b → Is a n c → b ≡ c
   -- "Each script is then exactly the lines whose insert it has received and whose delete it hasn't, in position order."
   pub script : (s : Site) → Script (hostOf w s .received) (linesAt (hostOf w s))
   -- "for each of the 16 sites a count"
