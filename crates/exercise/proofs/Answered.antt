@@ -4,10 +4,10 @@
 use Prim.Native.Nat.{ℕ, _≤_, _<_}
 use native.Mathlib.Omega.{arith}
 use mathlib.Core.Path.{_≡_, refl, sym, ap, subst, _∙_}
-use mathlib.Core.Bool.{Bool, true, false, true≢false, cond, not, decide, _&&_, and-eq-true-iff}
+use mathlib.Core.Bool.{Bool, true, false, true≢false, cond, not, decide, and-eq-true-iff}
 use mathlib.Core.Logic.{⊎-elim}
 use mathlib.Core.List.{List, [], _∷_}
-use lib.Dec.{eqb, leb, ltb}
+use lib.Dec.{eqb, ltb}
 use lib.ListN.{length}
 use borrow.Author.Tests.{ltb-true, leb-true, leb-false, eqb-true, eqb-false, not-true, eq-eqb}
 use Rattle.position.specs.Positions.{idsOf}
@@ -35,6 +35,7 @@ use Rattle.effect.proofs.Edits.{done-answers}
 use Rattle.effect.proofs.Keeps.{SoundHeld}
 use Rattle.replica.specs.Grounds.{full, ownCount}
 use Rattle.replica.specs.Receive.{receiveChecks, receiveCall}
+use Rattle.replica.proofs.Numbers.{receive-numbers}
 use Rattle.replica.proofs.Tests.{passed-is}
 use Rattle.host.specs.Calls.{receiveBytes}
 use Rattle.exercise.specs.Scripts.{patchOf, besideOf}
@@ -49,11 +50,6 @@ once a ((b, n) ∷ checks) = cond (eqb a n) (not (among a checks)) (once a check
 abbrev Told : ℕ → List (Bool × ℕ) → Type 0
 Told a [] = ⊥
 Told a ((b, n) ∷ checks) = cond (eqb a n) (b ≡ true) ((b ≡ false) × Told a checks)
-
--- each check's number passes this test
-abbrev each : (ℕ → Bool) → List (Bool × ℕ) → Bool
-each test [] = true
-each test ((b, n) ∷ checks) = test n && each test checks
 
 module _ {A : Type 0} (refused : ℕ → A) (done : A) (answer : A → ℕ) (is : (n : ℕ) → answer (refused n) ≡ n) where
   -- where a check has passed, a later one has the number that is answered
@@ -73,15 +69,6 @@ module _ {A : Type 0} (refused : ℕ → A) (done : A) (answer : A → ℕ) (is 
       passed-told a checks (eqb a n)
       (λ none. other (sym (ap answer (answer-done refused done answer is a checks none e .1)) ∙ e))
       (λ rest. ground-told a checks rest other e) alone
-
-  -- a refused call answers with the number of a check
-  number-told : (test : ℕ → Bool) (checks : List (Bool × ℕ)) → each test checks ≡ true
-      → (answer (firstOf checks refused done) ≡ answer done → ⊥) → test (answer (firstOf checks refused done)) ≡ true
-  unfolding firstOf
-  number-told test [] all other = absurd (other refl)
-  number-told test ((true, n) ∷ checks) all other = ap test (is n) ∙ and-eq-true-iff (test n) (each test checks) .0 all .0
-  number-told test ((false, n) ∷ checks) all other =
-      number-told test checks (and-eq-true-iff (test n) (each test checks) .0 all .1) other
 
 -- What the answers of a host that holds h tell of the bytes received.
 pub record Grounds (h : Held) (b : List ℕ) (answer : ℕ) : Type 0 where
@@ -121,16 +108,6 @@ module _ (r : Replica) (table b : List ℕ) where
       (λ e. ⊎-elim (λ is. eqb-false a 0 not-0 (sym e ∙ is)) (λ is. eqb-false a 15 not-15 (sym e ∙ is))
       (done-answers p (p .edit) (decodeTable (r .rows) table)))
 
-  -- and refused 1 to 7
-  told-numbers : (answered ≡ 0 → ⊥) → (answered ≡ 15 → ⊥) → (1 ≤ answered) × (answered ≤ 7)
-  unfolding receiveCall receiveChecks
-  told-numbers not-0 not-15 =
-      let within = number-told (unchanged r table) done (λ (o : Outcome). o .answer) (λ n. refl)
-      (λ n. leb 1 n && leb n 7) checks refl
-      (λ e. ⊎-elim (λ is. not-0 (e ∙ is)) (λ is. not-15 (e ∙ is)) (done-answers p (p .edit) (decodeTable (r .rows) table))) in
-      let both = and-eq-true-iff (leb 1 answered) (leb answered 7) .0 within in
-      (leb-true 1 answered (both .0), leb-true answered 7 (both .1))
-
   -- each number's ground, said of what record and table hold
   grounds : Sound r table → Grounds (heldIn r table) b answered
   unfolding receiveChecks
@@ -155,7 +132,7 @@ module _ (r : Replica) (table b : List ℕ) where
         no-room = λ e.
             let both = and-eq-true-iff (inserts (p .edit)) (full r) .0 (told 7 refl refl refl e .1 .1 .1 .1 .1 .1) in
             (both .0, lines-length (r .rows) table ∙ eqb-true (r .rows) 512 (both .1));
-        numbers = told-numbers;
+        numbers = receive-numbers r table b;
       }
 
 -- A host that holds h receives these bytes.

@@ -3,10 +3,11 @@
 -- Assumes nothing.
 use Prim.Native.Nat.{ℕ, zero, suc, _+_, _*_, _≤_, _<_}
 use native.Mathlib.Nat.{zero-add, eq-zero-or-pos}
+use native.Mathlib.Decide.{ℕ-discrete}
 use native.Mathlib.Omega.{arith}
 use borrow.Author.Tests.{ltb-false}
 use mathlib.Core.Path.{_≡_, refl, _∙_}
-use mathlib.Core.Logic.{⊎-elim}
+use mathlib.Core.Logic.{⊎-elim, by-cases}
 use mathlib.Core.Bool.{Bool, true, false, cond}
 use mathlib.Core.List.{List, [], _∷_}
 use lib.Dec.{eqb, ltb}
@@ -16,14 +17,12 @@ use Rattle.script.specs.declared.Replica.{Replica}
 use Rattle.script.specs.Lines.{Line, noLine}
 use Rattle.script.specs.Sound.{Sound}
 use Rattle.script.proofs.Held.{SoundLines, sound-lines}
-use Rattle.format.specs.Answers.{firstOf}
 use Rattle.format.proofs.Sizes.{sizes}
-use Rattle.patch.specs.Read.{readFirst, readOne}
+use Rattle.patch.specs.Read.{readFirst}
 use Rattle.patch.proofs.RoundTrip.{what-is-read}
-use Rattle.effect.specs.Held.{Outcome, unchanged}
-use Rattle.effect.specs.Effect.{doneBy}
-use Rattle.effect.proofs.Edits.{done-answers}
-use Rattle.replica.specs.Receive.{receiveChecks, receiveCall}
+use Rattle.effect.specs.Held.{Outcome}
+use Rattle.replica.specs.Receive.{receiveCall}
+use Rattle.replica.proofs.Numbers.{receive-numbers}
 use Rattle.replica.proofs.Received.{receive-sound, receive-counts}
 use Rattle.listed.specs.Output.{behind}
 use Rattle.listed.specs.Text.{ascii, patchLine, fromPlace, rowLine, rowsText}
@@ -55,26 +54,13 @@ cut-most (suc most) (b ∷ s) =
     (eq-zero-or-pos (readFirst (b ∷ s) .used))
 
 -- Answers are at most 15.
-
--- no number of a ground is above it
-abbrev Within : ℕ → List (Bool × ℕ) → Type 0
-Within most [] = Unit {0}
-Within most ((b, n) ∷ checks) = (n ≤ most) × Within most checks
-
-answer-within : (most : ℕ) (refused : ℕ → Outcome) (done : Outcome) → ((n : ℕ) → refused n .answer ≡ n) → done .answer ≤ most
-    → (checks : List (Bool × ℕ)) → Within most checks → firstOf checks refused done .answer ≤ most
-unfolding firstOf
-answer-within most refused done is h [] within = h
-answer-within most refused done is h ((true, n) ∷ checks) (here, within) = rw (is n) here
-answer-within most refused done is h ((false, n) ∷ checks) (here, within) = answer-within most refused done is h checks within
-
 receive-most : (r : Replica) (table bytes : List ℕ) → receiveCall r table bytes .answer ≤ 15
-unfolding receiveCall receiveChecks
 receive-most r table bytes =
-    let p = readOne bytes .patch in
-    answer-within 15 (unchanged r table) (doneBy r table p (readOne bytes .text)) (λ n. refl)
-    (⊎-elim (λ e. omega arith) (λ e. omega arith) (done-answers p (p .edit) (linesIn (unchanged r table 0)))) (receiveChecks r table (readOne bytes))
-    (omega arith, (omega arith, (omega arith, (omega arith, (omega arith, (omega arith, (omega arith, tt)))))))
+    let answer = receiveCall r table bytes .answer in
+    by-cases (ℕ-discrete answer 0) (λ e. omega (arith, e))
+    (λ not-0.
+    by-cases (ℕ-discrete answer 15) (λ e. omega (arith, e))
+    (λ not-15. omega (arith, receive-numbers r table bytes not-0 not-15 .1)))
 
 -- What is fed stays sound.
 

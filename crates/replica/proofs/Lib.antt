@@ -5,6 +5,7 @@ pub mod Deleted
 pub mod Inserted
 pub mod Neighbours
 pub mod NewPlace
+pub mod Numbers
 pub mod OwnAccepted
 pub mod OwnDone
 pub mod OwnPatch
