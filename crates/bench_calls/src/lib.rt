@@ -1,6 +1,6 @@
 // The steps that bench/ measures, for C to call. Nothing else uses them: a host has its own calls.
 //
-// Rests on `sound`, `script` and `rows`. Each is proved safe for every input; what it does is the
+// Rests on `sound`, `script`, `record` and `rows`. Each is proved safe for every input; what it does is the
 // contract of the function that it calls.
 use script::ROW;
 use script::ROWS;
@@ -17,7 +17,7 @@ pub extern "C" fn bench_all_zero(bytes: &[u8]) -> bool {
 // Whether the record of 67 bytes and the table are sound.
 #[no_mangle]
 pub extern "C" fn bench_sound(record: &[u8], table: &[u8]) -> bool {
-    sound::sound(script::record::read(record), table)
+    sound::sound(record::read(record), table)
 }
 
 // Puts a row in at row 0 of a table with these rows in use, at most 511.

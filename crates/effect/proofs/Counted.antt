@@ -8,7 +8,7 @@ use mathlib.Core.Logic.{by-cases}
 use mathlib.Core.List.{List}
 use lib.ListN.{length, getD, length-set}
 use lib.Seq.{getD-set-same, getD-set-other}
-use Rattle.script.specs.Records.{countOf, CountsFit}
+use Rattle.record.specs.Records.{countOf, CountsFit}
 use Rattle.script.proofs.Kept.{Risen}
 use Rattle.effect.specs.Effect.{raised}
 

@@ -5,7 +5,7 @@ use mathlib.Core.Path.{_≡_}
 use mathlib.Core.List.{List}
 use lib.ListN.{length}
 use Rattle.position.specs.Positions.{idsOf}
-use Rattle.script.specs.declared.Replica.{Replica}
+use Rattle.record.specs.declared.Replica.{Replica}
 use Rattle.script.specs.declared.table.Found.{Found}
 use Rattle.script.specs.Lines.{Line, encodeTable, decodeTable}
 use Rattle.script.specs.Sound.{Sound}

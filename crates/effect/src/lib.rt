@@ -1,17 +1,17 @@
 // What a patch does to a replica, for own edits and for patches received alike (01, 'Answer numbers',
 // the paragraph on what is done): "A local edit leaves what its patch would do on arrival".
 //
-// Rests on `script` for the table and on `format` for what a patch is. It refuses nothing: whoever calls
-// has checked that the replica takes the patch, and has found its place. What is done is
+// Rests on `record` for the counts, on `script` for the table and on `format` for what a patch is. It refuses
+// nothing: whoever calls has checked that the replica takes the patch, and has found its place. What is done is
 // specs/Effect.antt, said of the counts and the lines; that it keeps a replica sound is proofs/Keeps.antt.
 use format::Edit;
 use format::Patch;
 use format::TEXT;
 use format::answers::DONE;
 use format::answers::GONE;
+use record::Replica;
+use record::SITES;
 use script::ROW;
-use script::Replica;
-use script::SITES;
 use script::row;
 use script::table::Found;
 use script::table::put_row;
@@ -20,7 +20,7 @@ ghost use mathlib.Core.Path.{_≡_};
 ghost use mathlib.Core.Bool.{true};
 ghost use Prim.Native.Nat.{_≤_, _<_};
 ghost use Rattle.script.specs.Lines.{decodeTable};
-ghost use Rattle.script.specs.Records.{countOf};
+ghost use Rattle.record.specs.Records.{countOf};
 ghost use Rattle.script.specs.Sound.{Sound};
 ghost use Rattle.effect.specs.Effect.{raised, rowOf, isRow, numbered, without, struckAnswer, edited, doneAnswer, doneBy};
 ghost use Rattle.effect.specs.Steps.{Ready, Leaves};

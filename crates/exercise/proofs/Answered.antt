@@ -12,9 +12,9 @@ use lib.ListN.{length}
 use borrow.Author.Tests.{ltb-true, leb-true, leb-false, eqb-true, eqb-false, not-true, eq-eqb}
 use Rattle.position.specs.Positions.{idsOf}
 use Rattle.position.proofs.Decided.{decided-true}
-use Rattle.script.specs.declared.Replica.{Replica}
+use Rattle.record.specs.declared.Replica.{Replica}
 use Rattle.script.specs.Lines.{decodeTable}
-use Rattle.script.specs.Records.{countOf, recordRead}
+use Rattle.record.specs.Records.{countOf, recordRead}
 use Rattle.script.specs.Sound.{Sound}
 use Rattle.script.specs.Find.{findIn}
 use Rattle.script.proofs.Decided.{sound?}

@@ -8,7 +8,7 @@ use mathlib.Core.Path.{_≡_, refl, sym, ap, _∙_, subst}
 use mathlib.Core.Logic.{⊎-elim, by-cases}
 use mathlib.Core.List.{List, [], _∷_, List·Memᴰ, List·Memᴰ·head, List·Memᴰ·tail, List·Memᴰ·cases-cons, List·Memᴰ·not-nil}
 use lib.ListN.{getD-replicate}
-use Rattle.script.specs.Records.{countOf}
+use Rattle.record.specs.Records.{countOf}
 use Rattle.effect.specs.Held.{Held}
 use Rattle.effect.specs.Effect.{effect, Takes}
 use Rattle.effect.proofs.Counted.{raised-own, raised-other}

@@ -12,8 +12,8 @@ use lib.Dec.{ltb}
 use lib.ListN.{length, drop, getD, length-drop}
 use Rattle.position.proofs.Decided.{decided-true}
 use Rattle.rows.specs.Rows.{flat}
-use Rattle.script.specs.Records.{countOf, CountsFit, recordSize, countsSize, countsOf, recordOf, recordRead}
-use Rattle.script.proofs.Decided.{counts-fit?}
+use Rattle.record.specs.Records.{countOf, CountsFit, recordSize, countsSize, countsOf, recordOf, recordRead}
+use Rattle.record.proofs.Decided.{counts-fit?}
 use Rattle.format.specs.Answers.{firstOf}
 use Rattle.format.proofs.Checked.{Passed, passed-done}
 use Rattle.replica.specs.declared.compare.Lack.{Lack}

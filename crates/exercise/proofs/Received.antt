@@ -9,9 +9,9 @@ use mathlib.Core.Logic.{_⊎_, ⊎-elim}
 use mathlib.Core.List.{List}
 use lib.Dec.{eqb, leb, ltb}
 use borrow.Author.Tests.{leb-false, eqb-false, lt-ltb, eq-eqb}
-use Rattle.script.specs.declared.Replica.{Replica}
+use Rattle.record.specs.declared.Replica.{Replica}
 use Rattle.script.specs.Lines.{decodeTable}
-use Rattle.script.specs.Records.{countOf, recordRead, recordWritten}
+use Rattle.record.specs.Records.{countOf, recordRead, recordWritten}
 use Rattle.format.specs.Patches.{patchBytes}
 use Rattle.format.proofs.Checked.{Passed, either-way, answer-done}
 use Rattle.patch.specs.Read.{readOne}

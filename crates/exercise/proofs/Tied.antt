@@ -12,11 +12,11 @@ use Rattle.position.specs.declared.Position.{Position}
 use Rattle.position.specs.Positions.{positionOf}
 use Rattle.position.proofs.Ids.{position-ids}
 use Rattle.rows.specs.Rows.{filled}
-use Rattle.script.specs.declared.Replica.{Replica}
+use Rattle.record.specs.declared.Replica.{Replica}
 use Rattle.script.specs.Lines.{Line, tableSize, decodeRow, rowAt, decodeTable}
-use Rattle.script.specs.Records.{recordSize, recordBytes, recordOf, recordRead, recordWritten}
+use Rattle.record.specs.Records.{recordSize, recordBytes, recordOf, recordRead, recordWritten}
 use Rattle.script.specs.Sound.{Sound}
-use Rattle.script.proofs.RecordBack.{sound-fits, record-length, record-back}
+use Rattle.record.proofs.RecordBack.{sound-fits, record-length, record-back}
 use Rattle.format.specs.declared.Edit.{Edit}
 use Rattle.format.specs.declared.Edit.the-variants.{Insert, Delete}
 use Rattle.format.specs.declared.Patch.{Patch}

@@ -15,7 +15,7 @@ use Rattle.position.specs.declared.order.Order.the-variants.{Same}
 use Rattle.position.proofs.Ordered.{is-same}
 use Rattle.script.specs.declared.table.Found.{Found}
 use Rattle.script.specs.Lines.{Line, noLine}
-use Rattle.script.specs.Records.{countOf}
+use Rattle.record.specs.Records.{countOf}
 use Rattle.script.specs.Find.{findIn}
 use Rattle.script.proofs.Finding.{placeAt, Told, in-row, in-gap, told, found-same}
 use Rattle.format.specs.declared.Edit.{Edit}

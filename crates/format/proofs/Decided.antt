@@ -7,8 +7,8 @@ use mathlib.Core.List.{List}
 use lib.ListN.{length, getD}
 use Rattle.position.specs.Positions.{pad, idsOf, authorOf}
 use Rattle.position.proofs.Decided.{by-field, each-within?, identifier?, line-position?}
-use Rattle.script.specs.Records.{countOf}
-use Rattle.script.proofs.Decided.{counts-fit?}
+use Rattle.record.specs.Records.{countOf}
+use Rattle.record.proofs.Decided.{counts-fit?}
 use Rattle.format.specs.declared.Edit.{Edit}
 use Rattle.format.specs.declared.Edit.the-variants.{Insert, Delete}
 use Rattle.format.specs.declared.Patch.{Patch}

@@ -12,7 +12,7 @@ use Rattle.position.specs.declared.Identifier.{Identifier}
 use Rattle.position.specs.declared.Position.{Position}
 use Rattle.position.specs.Positions.{pad, idsOf, Proper}
 use Rattle.rows.specs.Rows.{Upto}
-use Rattle.script.specs.Records.{countOf}
+use Rattle.record.specs.Records.{countOf}
 use Rattle.format.specs.declared.Patch.{Patch}
 use Rattle.format.specs.WellFormed.{HeadFits, BeforeFits, LineFits, EditAgrees}
 

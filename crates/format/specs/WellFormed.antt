@@ -7,7 +7,7 @@ use mathlib.Core.Path.{_≡_}
 use mathlib.Core.List.{List}
 use lib.ListN.{length, getD}
 use Rattle.position.specs.Positions.{pad, idsOf, authorOf, LinePosition}
-use Rattle.script.specs.Records.{countOf, CountsFit}
+use Rattle.record.specs.Records.{countOf, CountsFit}
 use Rattle.format.specs.declared.Edit.{Edit}
 use Rattle.format.specs.declared.Edit.the-variants.{Insert, Delete}
 use Rattle.format.specs.declared.Patch.{Patch}

@@ -1,8 +1,8 @@
 // What a patch is (01, 'Patch layout'): its value, the bytes that it has, and the rules by which it is
 // well-formed.
 //
-// Rests on `position` for places, on `rows` for numbers, and on `script` for the identifier's bytes and
-// the counts. The bytes are specs/Patches.antt and the rules specs/WellFormed.antt; what a reader of the
+// Rests on `position` for places, on `rows` for numbers, on `record` for the counts, and on `script` for the
+// identifier's bytes. The bytes are specs/Patches.antt and the rules specs/WellFormed.antt; what a reader of the
 // format has to believe is those two. Reading and writing are the crate `patch`. The answer numbers stand here
 // too (`answers`), below everything that answers with one.
 use position::Position;
@@ -22,7 +22,7 @@ pub const IDENTIFIER: usize = 3;
 
 // The most bytes that a patch has: the head, then three sections, each after its count byte.
 pub const MOST: usize = HEAD
-    + (1 + script::SITES * ENTRY)
+    + (1 + record::SITES * ENTRY)
     + (1 + Position::LIMIT * IDENTIFIER)
     + (1 + TEXT);
 
@@ -43,7 +43,7 @@ pub struct Entry {
 pub struct Patch {
     pub author: u8,
     pub number: u32,
-    pub before: [u32; script::SITES],
+    pub before: [u32; record::SITES],
     pub place: Position,
     pub edit: Edit,
 }

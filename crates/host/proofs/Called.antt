@@ -4,8 +4,8 @@
 use Prim.Native.Nat.{ℕ}
 use mathlib.Core.Path.{_≡_, ap, _∙_}
 use mathlib.Core.List.{List}
-use Rattle.script.specs.declared.Replica.{Replica}
-use Rattle.script.specs.Records.{recordRead, recordWritten}
+use Rattle.record.specs.declared.Replica.{Replica}
+use Rattle.record.specs.Records.{recordRead, recordWritten}
 use Rattle.effect.specs.Held.{Outcome}
 use Rattle.replica.specs.Own.{OwnOutcome}
 use Rattle.host.specs.Calls.{called, ownCalled}

@@ -14,9 +14,9 @@ use lib.ListN.{length, take, drop, take-append-drop}
 use lib.Seq.{take-at, drop-drop}
 use Rattle.rows.proofs.Digits.{Bytes}
 use Rattle.script.specs.Lines.{rowSize, textLengthOf, textOf, rowAt, decodeTable}
-use Rattle.script.specs.Records.{recordSize, nobody, recordRead, recordWritten}
+use Rattle.record.specs.Records.{recordSize, nobody, recordRead, recordWritten}
 use Rattle.script.proofs.Decided.{sound?}
-use Rattle.script.proofs.RecordBack.{bytes-of-record}
+use Rattle.record.proofs.RecordBack.{bytes-of-record}
 use Rattle.format.specs.Answers.{firstOf}
 use Rattle.format.proofs.Checked.{refused-alike}
 use Rattle.patch.specs.Read.{readFirst, readOne}

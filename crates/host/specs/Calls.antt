@@ -11,7 +11,7 @@ use lib.ListN.{length}
 use Rattle.rows.specs.Numbers.{bytesOf}
 use Rattle.rows.specs.Rows.{flat}
 use Rattle.script.specs.Lines.{textStart}
-use Rattle.script.specs.Records.{recordSize, countsSize, countsOf, recordRead, recordWritten}
+use Rattle.record.specs.Records.{recordSize, countsSize, countsOf, recordRead, recordWritten}
 use Rattle.format.specs.Answers.{firstOf}
 use Rattle.patch.specs.Read.{readFirst}
 use Rattle.effect.specs.Held.{Outcome}

@@ -1,8 +1,8 @@
 // What comparing gives, as bytes: sixteen times side (1), first (4), last (4).
+use record::SITES;
 use replica::compare::Lack;
 use rows::numbers::put_1;
 use rows::numbers::put_4;
-use script::SITES;
 ghost use mathlib.Core.Path.{_≡_};
 ghost use lib.ListN.{length};
 ghost use Rattle.rows.specs.Rows.{flat, written};

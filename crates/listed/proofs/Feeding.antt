@@ -9,7 +9,7 @@ use mathlib.Core.Bool.{not}
 use mathlib.Core.List.{List, [], _∷_}
 use borrow.Author.Tests.{eq-eqb, ne-eqb}
 use lib.ListN.{length, take, drop, length-drop}
-use Rattle.script.specs.declared.Replica.{Replica}
+use Rattle.record.specs.declared.Replica.{Replica}
 use Rattle.script.specs.Lines.{tableSize}
 use Rattle.script.specs.Sound.{Sound}
 use Rattle.format.proofs.Checked.{passed-done}

@@ -13,7 +13,7 @@ use mathlib.Core.List.{List, [], _∷_}
 use lib.Dec.{eqb, ltb}
 use lib.ListN.{length, drop, getD, length-append, length-drop, length-replicate}
 use Rattle.rows.specs.Rows.{written}
-use Rattle.script.specs.declared.Replica.{Replica}
+use Rattle.record.specs.declared.Replica.{Replica}
 use Rattle.script.specs.Lines.{Line, noLine}
 use Rattle.script.specs.Sound.{Sound}
 use Rattle.script.proofs.Held.{SoundLines, sound-lines}

@@ -6,7 +6,7 @@ use format::TEXT;
 use format::rules::agrees;
 use position::Identifier;
 use position::Position;
-use script::SITES;
+use record::SITES;
 ghost use mathlib.Core.Path.{_≡_};
 ghost use Rattle.patch.specs.Read.{refused, readFirst, readOne};
 

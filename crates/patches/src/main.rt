@@ -5,7 +5,9 @@
 // patches that are values and never were bytes are tried on the writer. The output is compared with the
 // file `stdout`, which is made from the document.
 //
-// Rests on `patch`, `format`, `script` and `position`, and on `feed`, `show` and `io`.
+// Rests on `patch`, `format`, `record` and `position`, and on `show` and `io`.
+mod feed;
+
 use format::Edit;
 use format::MOST;
 use format::Patch;
@@ -18,7 +20,7 @@ use patch::write::Written;
 use patch::write::write;
 use position::Identifier;
 use position::Position;
-use script::SITES;
+use record::SITES;
 
 // The most bytes that a case has.
 const CASE: usize = 400;

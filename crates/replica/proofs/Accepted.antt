@@ -6,8 +6,8 @@ use native.Mathlib.Omega.{arith}
 use mathlib.Core.Path.{_≡_}
 use mathlib.Core.List.{List}
 use borrow.Author.Tests.{leb-false, eqb-false}
-use Rattle.script.specs.declared.Replica.{Replica}
-use Rattle.script.specs.Records.{countOf}
+use Rattle.record.specs.declared.Replica.{Replica}
+use Rattle.record.specs.Records.{countOf}
 use Rattle.script.specs.Sound.{Sound}
 use Rattle.script.proofs.Decided.{sound?}
 use Rattle.script.proofs.Tables.{lines-length}

@@ -10,7 +10,7 @@ use Rattle.position.specs.declared.Identifier.{Identifier}
 use Rattle.position.specs.Positions.{positionOf}
 use Rattle.position.proofs.Ids.{position-ids}
 use Rattle.rows.specs.Rows.{removeAt}
-use Rattle.script.specs.declared.Replica.{Replica}
+use Rattle.record.specs.declared.Replica.{Replica}
 use Rattle.script.specs.Lines.{Line, decodeRow, rowAt, decodeTable}
 use Rattle.script.specs.Sound.{Sound}
 use Rattle.script.proofs.Lent.{line-found}

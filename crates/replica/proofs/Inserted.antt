@@ -12,7 +12,7 @@ use Rattle.position.specs.Positions.{idsOf}
 use Rattle.position.proofs.Ids.{position-ids}
 use Rattle.rows.specs.Rows.{filled, insertAt}
 use Rattle.rows.proofs.Slots.{zeros, filled-is}
-use Rattle.script.specs.declared.Replica.{Replica}
+use Rattle.record.specs.declared.Replica.{Replica}
 use Rattle.script.specs.declared.table.Found.the-variants.{Gap}
 use Rattle.script.specs.Lines.{Line, decodeTable}
 use Rattle.script.specs.Sound.{Sound}

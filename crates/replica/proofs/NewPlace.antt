@@ -16,7 +16,7 @@ use Rattle.position.specs.Place.{placeOf, placed}
 use Rattle.position.proofs.Made.{made-between}
 use Rattle.position.proofs.Line.{made-line}
 use Rattle.position.proofs.Ordered.{under-above}
-use Rattle.script.specs.declared.Replica.{Replica}
+use Rattle.record.specs.declared.Replica.{Replica}
 use Rattle.script.specs.declared.table.Found.the-variants.{Gap}
 use Rattle.script.specs.Lines.{Line, decodeTable}
 use Rattle.script.specs.Sound.{Sound}

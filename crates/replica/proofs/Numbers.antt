@@ -7,7 +7,7 @@ use mathlib.Core.Bool.{Bool, true, false, _&&_, and-eq-true-iff}
 use mathlib.Core.Logic.{⊎-elim}
 use mathlib.Core.List.{List, [], _∷_}
 use lib.Dec.{leb}
-use Rattle.script.specs.declared.Replica.{Replica}
+use Rattle.record.specs.declared.Replica.{Replica}
 use Rattle.script.specs.Lines.{decodeTable}
 use Rattle.format.specs.declared.Patch.{Patch}
 use Rattle.format.specs.Answers.{firstOf}

@@ -11,7 +11,7 @@ use lib.ListN.{length, replicate}
 use Rattle.position.specs.declared.Position.{Position}
 use Rattle.position.specs.Positions.{positionOf}
 use Rattle.rows.specs.Rows.{filled}
-use Rattle.script.specs.declared.Replica.{Replica}
+use Rattle.record.specs.declared.Replica.{Replica}
 use Rattle.script.specs.Lines.{Line, decodeRow, rowAt, decodeTable}
 use Rattle.script.specs.Sound.{Sound}
 use Rattle.script.specs.Find.{findIn}

@@ -7,7 +7,7 @@ use mathlib.Core.Path.{_≡_, refl, sym, ap, _∙_}
 use mathlib.Core.List.{List}
 use lib.ListN.{length, take, drop}
 use lib.Seq.{take-at}
-use Rattle.script.specs.declared.Replica.{Replica}
+use Rattle.record.specs.declared.Replica.{Replica}
 use Rattle.script.specs.Lines.{decodeTable}
 use Rattle.script.specs.Sound.{Sound}
 use Rattle.format.specs.declared.Patch.{Patch}

@@ -14,9 +14,9 @@ use Rattle.position.proofs.Ids.{position-ids}
 use Rattle.position.proofs.Authors.{author-least}
 use Rattle.rows.specs.Rows.{filled}
 use Rattle.rows.proofs.Slots.{filled-length, filled-zero}
-use Rattle.script.specs.declared.Replica.{Replica}
+use Rattle.record.specs.declared.Replica.{Replica}
 use Rattle.script.specs.Lines.{decodeTable}
-use Rattle.script.specs.Records.{countOf}
+use Rattle.record.specs.Records.{countOf}
 use Rattle.script.specs.Sound.{Sound}
 use Rattle.script.specs.Find.{findIn}
 use Rattle.script.proofs.Tables.{lines-length}

@@ -4,7 +4,7 @@ use Prim.Native.Nat.{ℕ, _<_}
 use mathlib.Core.Path.{_≡_, refl}
 use mathlib.Core.List.{List, []}
 use borrow.Author.Tests.{leb-false}
-use Rattle.script.specs.declared.Replica.{Replica}
+use Rattle.record.specs.declared.Replica.{Replica}
 use Rattle.script.specs.Lines.{textOf, rowAt}
 use Rattle.script.specs.Sound.{Sound}
 use Rattle.script.proofs.Decided.{sound?}

@@ -8,7 +8,7 @@ use mathlib.Core.List.{List}
 use borrow.Author.Tests.{leb-true, not-false}
 use lib.Dec.{leb}
 use lib.ListN.{length-replicate, getD-replicate}
-use Rattle.script.specs.declared.Replica.{Replica}
+use Rattle.record.specs.declared.Replica.{Replica}
 use Rattle.script.specs.Sound.{Sound}
 use Rattle.format.proofs.Checked.{Passed, either-way, answer-done}
 use Rattle.effect.specs.Held.{Outcome, heldIn, unchanged, leaving}

@@ -3,7 +3,7 @@
 use Prim.Native.Nat.{ℕ}
 use mathlib.Core.Path.{_≡_, sym, ap, _∙_}
 use mathlib.Core.List.{List}
-use Rattle.script.specs.declared.Replica.{Replica}
+use Rattle.record.specs.declared.Replica.{Replica}
 use Rattle.effect.specs.declared.Done.{Done}
 use Rattle.effect.specs.Held.{Outcome, unchanged}
 use Rattle.replica.specs.declared.Edited.{Edited}

@@ -5,7 +5,7 @@ use mathlib.Core.Bool.{Bool, cond, decide, not, _&&_}
 use mathlib.Core.List.{List, [], _∷_, zipWith}
 use lib.Dec.{ltb}
 use lib.ListN.{replicate}
-use Rattle.script.proofs.Decided.{counts-fit?}
+use Rattle.record.proofs.Decided.{counts-fit?}
 use Rattle.format.specs.Answers.{firstOf}
 use Rattle.replica.specs.declared.compare.Lack.{Lack}
 use Rattle.replica.specs.declared.compare.Compared.{Compared}

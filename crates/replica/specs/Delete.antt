@@ -6,7 +6,7 @@ use mathlib.Core.List.{List, [], _∷_}
 use lib.Dec.{leb}
 use lib.ListN.{replicate}
 use Rattle.position.specs.Positions.{positionOf}
-use Rattle.script.specs.declared.Replica.{Replica}
+use Rattle.record.specs.declared.Replica.{Replica}
 use Rattle.script.specs.Lines.{Line, decodeRow, rowAt}
 use Rattle.format.specs.declared.Edit.the-variants.{Delete}
 use Rattle.format.specs.Answers.{firstOf}

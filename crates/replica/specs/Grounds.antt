@@ -5,8 +5,8 @@ use mathlib.Core.Bool.{Bool, decide, not}
 use mathlib.Core.List.{List}
 use lib.Dec.{eqb, ltb}
 use lib.ListN.{length}
-use Rattle.script.specs.declared.Replica.{Replica}
-use Rattle.script.specs.Records.{countOf}
+use Rattle.record.specs.declared.Replica.{Replica}
+use Rattle.record.specs.Records.{countOf}
 use Rattle.script.proofs.Decided.{sound?}
 use Rattle.format.specs.Patches.{mostSize}
 

@@ -10,7 +10,7 @@ use Rattle.position.specs.declared.place.Placed.{Placed}
 use Rattle.position.specs.Positions.{begin, end, idsOf}
 use Rattle.position.specs.Place.{placeOf, placed}
 use Rattle.rows.specs.Rows.{filled}
-use Rattle.script.specs.declared.Replica.{Replica}
+use Rattle.record.specs.declared.Replica.{Replica}
 use Rattle.script.specs.Lines.{Line, decodeTable}
 use Rattle.script.specs.Find.{findIn}
 use Rattle.format.specs.declared.Edit.the-variants.{Insert}

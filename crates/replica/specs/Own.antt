@@ -5,7 +5,7 @@ use mathlib.Core.List.{List}
 use lib.ListN.{length}
 use Rattle.position.specs.declared.Position.{Position}
 use Rattle.rows.specs.Rows.{written}
-use Rattle.script.specs.declared.Replica.{Replica}
+use Rattle.record.specs.declared.Replica.{Replica}
 use Rattle.format.specs.declared.Edit.{Edit}
 use Rattle.format.specs.declared.Patch.{Patch}
 use Rattle.format.specs.Patches.{patchBytes}

@@ -1,8 +1,8 @@
 // Comparing two sets of sixteen counts (01, 'Answer numbers').
 use format::answers::DONE;
 use format::answers::UNSOUND;
-use script::SITES;
-use script::record::counts_fit;
+use record::SITES;
+use record::counts_fit;
 ghost use mathlib.Core.Path.{_≡_};
 ghost use Rattle.replica.specs.Compare.{noLack, lackOf, compareCall};
 

@@ -8,7 +8,7 @@
 // the document's order, the answer, and all that it leaves. A refusal leaves all as it was.
 //
 // The record comes in by value and comes back in the result.
-use script::Replica;
+use record::Replica;
 
 pub mod compare;
 pub mod delete;

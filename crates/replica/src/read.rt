@@ -2,7 +2,7 @@
 use format::answers::DONE;
 use format::answers::NO_ROW;
 use format::answers::UNSOUND;
-use script::Replica;
+use record::Replica;
 use script::table::text;
 use sound::sound;
 ghost use mathlib.Core.Path.{_≡_};

@@ -1,4 +1,4 @@
--- Whether counts are in range is decided, and whether record and table are sound, fact by fact.
+-- Whether record and table are sound is decided, fact by fact.
 -- Assumes nothing.
 use Prim.Native.Nat.{ℕ, suc, _+_, _*_, _<_}
 use native.Mathlib.Decide.{map-dec, ℕ-discrete, decLe}
@@ -8,21 +8,11 @@ use lib.ListN.{length, getD}
 use Rattle.position.specs.Positions.{authorOf}
 use Rattle.position.specs.Order.{_≺_}
 use Rattle.position.proofs.Decided.{by-field, implied?, each-below?, each-within?, line-position?, under?}
-use Rattle.script.specs.declared.Replica.{Replica}
+use Rattle.record.specs.declared.Replica.{Replica}
 use Rattle.script.specs.Lines.{tableSize, rowSize, Line, usedOf, textLengthOf, decodeRow, rowAt}
-use Rattle.script.specs.Records.{countOf, CountsFit}
-use Rattle.script.specs.Sound.{SoundRecord, SoundLine, SoundRow, Sound}
-
-pub counts-fit? : (counts : List ℕ) → Dec (CountsFit counts)
-counts-fit? counts = each-below? (λ i. decLe (getD counts i 0) 1000000) 16
-
-sound-record? : (r : Replica) → Dec (SoundRecord r)
-sound-record? r =
-    by-field (decLe 1 (r .site)) (λ sound. sound .site-least) λ site-least.
-    by-field (decLe (r .site) 16) (λ sound. sound .site-most) λ site-most.
-    by-field (decLe (r .rows) 512) (λ sound. sound .rows) λ rows.
-    by-field (counts-fit? (r .counts)) (λ sound. sound .counts) λ counts.
-    yes (record { site-least = site-least; site-most = site-most; rows = rows; counts = counts })
+use Rattle.record.specs.Records.{countOf}
+use Rattle.record.proofs.Decided.{sound-record?}
+use Rattle.script.specs.Sound.{SoundLine, SoundRow, Sound}
 
 sound-line? : (counts : List ℕ) (l : Line) → Dec (SoundLine counts l)
 sound-line? counts l =

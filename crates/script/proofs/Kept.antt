@@ -14,7 +14,7 @@ use Rattle.rows.specs.Rows.{insertAt, removeAt, putIn, takeOut, within}
 use Rattle.rows.proofs.Digits.{Bytes}
 use Rattle.rows.proofs.Moved.{insert-length, remove-length, put-in, take-out}
 use Rattle.rows.proofs.Rising.{insert-each, insert-rising, remove-each, remove-rising}
-use Rattle.script.specs.declared.Replica.{Replica}
+use Rattle.record.specs.declared.Replica.{Replica}
 use Rattle.script.specs.declared.table.Found.the-variants.{Gap}
 use Rattle.script.specs.Lines.{tableSize, rowSize, Line, noLine, encodeRow, encodeTable, decodeTable}
 use Rattle.script.specs.Find.{findIn}

@@ -8,7 +8,7 @@ use mathlib.Core.List.{List}
 use lib.ListN.{length, take, drop, length-drop}
 use Rattle.position.proofs.Ordered.{is-same}
 use Rattle.rows.proofs.Bytes.{rest-lent}
-use Rattle.script.specs.declared.Replica.{Replica}
+use Rattle.record.specs.declared.Replica.{Replica}
 use Rattle.script.specs.Lines.{rowSize, Line, usedOf, identifiersOf, decodeRow, rowAt, decodeTable}
 use Rattle.script.specs.declared.table.Found.the-variants.{Row}
 use Rattle.script.specs.Sound.{Sound}

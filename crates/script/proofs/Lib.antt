@@ -5,5 +5,4 @@ pub mod Held
 pub mod Identifiers
 pub mod Kept
 pub mod Lent
-pub mod RecordBack
 pub mod Tables

@@ -9,7 +9,7 @@ use lib.ListN.{length, getD, length-drop}
 use Rattle.rows.proofs.Digits.{Bytes, bytes-drop}
 use Rattle.rows.proofs.Slots.{Each, slots-length, rows-length, rows-at}
 use Rattle.rows.proofs.Slots.{row-front, zero-behind, slots-back, slots-bytes}
-use Rattle.script.specs.declared.Replica.{Replica}
+use Rattle.record.specs.declared.Replica.{Replica}
 use Rattle.script.specs.Lines.{Line, noLine, encodeRow, encodeTable, decodeRow, rowAt, decodeTable}
 use Rattle.script.specs.Sound.{Sound}
 use Rattle.script.proofs.Encoded.{Fitting, row-length, row-back, row-bytes}

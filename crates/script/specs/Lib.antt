@@ -1,4 +1,3 @@
 pub mod Lines
-pub mod Records
 pub mod Sound
 pub mod Find

@@ -8,16 +8,9 @@ use mathlib.Core.List.{List}
 use lib.ListN.{length, getD}
 use Rattle.position.specs.Positions.{LinePosition, authorOf}
 use Rattle.position.specs.Order.{_≺_}
-use Rattle.script.specs.declared.Replica.{Replica}
+use Rattle.record.specs.declared.Replica.{Replica}
 use Rattle.script.specs.Lines.{tableSize, rowSize, Line, usedOf, textLengthOf, decodeRow, rowAt}
-use Rattle.script.specs.Records.{countOf, CountsFit}
-
--- "all ranges hold" of the record: "Site: 1 to 16", "Rows: 0 to 512", "a count is 0 to 1,000,000"
-pub record SoundRecord (r : Replica) : Type 0 where
-  pub site-least : 1 ≤ r .site
-  pub site-most : r .site ≤ 16
-  pub rows : r .rows ≤ 512
-  pub counts : CountsFit (r .counts)
+use Rattle.record.specs.Records.{countOf, SoundRecord}
 
 -- "all ranges hold" of a line: its position is a line's position, "Patch number, per site: 1 to
 -- 1,000,000", "Text of a line: 0 to 48 bytes"; and "each line's number is at most the count of its

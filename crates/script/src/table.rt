@@ -1,11 +1,11 @@
 // The table of a sound replica: finding a position, putting a row in, taking one out, and a row's
 // text (01, 'The record and the table').
 use crate::ROW;
-use crate::Replica;
 use crate::row;
 use position::Position;
 use position::order::Order;
 use position::order::compare;
+use record::Replica;
 use rows::moves::put_in;
 use rows::moves::take_out;
 ghost use mathlib.Core.Path.{_≡_};

@@ -10,7 +10,7 @@ use Rattle.position.specs.Positions.{Proper, identifier}
 use Rattle.rows.specs.Numbers.{numAt}
 use Rattle.rows.specs.Rows.{Upto, AllZero}
 use Rattle.script.specs.Lines.{tableSize, usedOf, numberOf, textLengthOf, rowAt}
-use Rattle.script.specs.Records.{countOf}
+use Rattle.record.specs.Records.{countOf}
 
 -- The masks: 48 zeros and 48 of 255, so that what stands from 48 - n on is zero before place n and
 -- 255 from it on; and 255 where one of the eight identifiers starts.

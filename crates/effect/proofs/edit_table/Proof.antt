@@ -13,7 +13,7 @@ use Rattle.position.specs.Positions.{idsOf}
 use Rattle.rows.specs.Rows.{putIn, within}
 use Rattle.rows.proofs.Digits.{Bytes}
 use Rattle.rows.proofs.Moved.{insert-length}
-use Rattle.script.specs.declared.Replica.{Replica}
+use Rattle.record.specs.declared.Replica.{Replica}
 use Rattle.script.specs.declared.table.Found.{Found}
 use Rattle.script.specs.Lines.{Line, rowSize, encodeRow, decodeTable}
 use Rattle.script.proofs.Tables.{lines-length}

@@ -12,7 +12,7 @@ use Rattle.rows.specs.Rows.{takeOut, within}
 use Rattle.rows.proofs.Bytes.{rest-lent}
 use Rattle.rows.proofs.Digits.{Bytes}
 use Rattle.rows.proofs.Moved.{remove-length}
-use Rattle.script.specs.declared.Replica.{Replica}
+use Rattle.record.specs.declared.Replica.{Replica}
 use Rattle.script.specs.declared.table.Found.{Found}
 use Rattle.script.specs.declared.table.Found.the-variants.{Row}
 use Rattle.script.specs.Lines.{Line, rowSize, numberOf, rowAt, decodeTable}

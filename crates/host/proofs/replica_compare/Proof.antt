@@ -8,7 +8,7 @@ use mathlib.Core.Bool.{Bool}
 use mathlib.Core.List.{List, zipWith}
 use lib.ListN.{length, replicate}
 use Rattle.rows.specs.Rows.{flat}
-use Rattle.script.specs.Records.{countsSize, countsOf}
+use Rattle.record.specs.Records.{countsSize, countsOf}
 use Rattle.format.specs.Answers.{firstOf}
 use Rattle.format.proofs.Checked.{passed-done, answer-done, refused-alike}
 use Rattle.replica.specs.declared.compare.Compared.{Compared}

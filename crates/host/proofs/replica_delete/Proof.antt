@@ -1,7 +1,7 @@
 -- `replica_delete` meets its contract: it reads the record, deletes, and writes the record back.
 -- Assumes nothing.
 use borrow.Author.Needs.{needs}
-use Rattle.script.specs.declared.Replica.{Replica}
+use Rattle.record.specs.declared.Replica.{Replica}
 use Rattle.replica.specs.Delete.{deleteCall}
 use Rattle.host.specs.Calls.{deleteBytes}
 use Rattle.host.proofs.Called.{is-own-called}

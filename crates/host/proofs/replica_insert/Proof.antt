@@ -1,7 +1,7 @@
 -- `replica_insert` meets its contract: it reads the record, inserts, and writes the record back.
 -- Assumes nothing.
 use borrow.Author.Needs.{needs}
-use Rattle.script.specs.declared.Replica.{Replica}
+use Rattle.record.specs.declared.Replica.{Replica}
 use Rattle.replica.specs.Insert.{insertCall}
 use Rattle.host.specs.Calls.{insertBytes}
 use Rattle.host.proofs.Called.{is-own-called}

@@ -1,7 +1,7 @@
 -- `replica_receive` meets its contract: it reads the record, receives, and writes the record back.
 -- Assumes nothing.
 use borrow.Author.Needs.{needs}
-use Rattle.script.specs.declared.Replica.{Replica}
+use Rattle.record.specs.declared.Replica.{Replica}
 use Rattle.replica.specs.Receive.{receiveCall}
 use Rattle.host.specs.Calls.{receiveBytes}
 use Rattle.host.proofs.Called.{is-called}

@@ -8,8 +8,8 @@ use mathlib.Core.Path.{_≡_, refl, _∙_}
 use mathlib.Core.Bool.{true≢false}
 use mathlib.Core.List.{List, [], _++_}
 use lib.ListN.{length}
-use Rattle.script.specs.declared.Replica.{Replica}
-use Rattle.script.specs.Records.{recordSize, recordRead}
+use Rattle.record.specs.declared.Replica.{Replica}
+use Rattle.record.specs.Records.{recordSize, recordRead}
 use Rattle.format.proofs.Checked.{either-way}
 use Rattle.effect.specs.Held.{Outcome, unchanged, leaving}
 use Rattle.replica.specs.Start.{empty, startChecks, startCall}

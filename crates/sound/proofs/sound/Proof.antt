@@ -2,7 +2,7 @@
 -- Assumes nothing.
 use native.Mathlib.Omega.{arith}
 use Rattle.rows.proofs.Answers.{refused, no-answer, means}
-use Rattle.script.specs.Sound.{SoundRecord}
+use Rattle.record.specs.Records.{SoundRecord}
 use Rattle.sound.proofs.Decided.{decided}
 use Rattle.sound.proofs.sound.Statement.{statement}
 use Rattle.sound.proofs.sound.Tie as tie

@@ -12,7 +12,7 @@ use Rattle.position.specs.declared.Position.{Position}
 use Rattle.position.specs.Positions.{positionOf}
 use Rattle.position.proofs.Ids.{position-ids}
 use Rattle.rows.proofs.Bytes.{rest-lent}
-use Rattle.script.specs.declared.Replica.{Replica}
+use Rattle.record.specs.declared.Replica.{Replica}
 use Rattle.script.specs.declared.table.Found.the-variants.{Row}
 use Rattle.script.specs.Lines.{Line, identifiersOf, numberOf, decodeRow, rowAt, decodeTable}
 use Rattle.script.specs.Sound.{Sound}

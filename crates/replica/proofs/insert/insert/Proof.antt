@@ -12,7 +12,7 @@ use Rattle.position.specs.declared.Position.{Position}
 use Rattle.position.specs.declared.place.Placed.{Placed}
 use Rattle.position.specs.Positions.{idsOf}
 use Rattle.rows.specs.Rows.{filled}
-use Rattle.script.specs.declared.Replica.{Replica}
+use Rattle.record.specs.declared.Replica.{Replica}
 use Rattle.script.specs.declared.table.Found.{Found}
 use Rattle.script.specs.Lines.{decodeTable}
 use Rattle.script.specs.Sound.{Sound}

@@ -6,7 +6,7 @@ use borrow.Author.Needs.{needs}
 use mathlib.Core.Path.{_≡_}
 use mathlib.Core.List.{List}
 use lib.ListN.{length}
-use Rattle.script.specs.declared.Replica.{Replica}
+use Rattle.record.specs.declared.Replica.{Replica}
 use Rattle.script.specs.Lines.{decodeTable}
 use Rattle.format.specs.declared.Patch.{Patch}
 use Rattle.format.specs.Patches.{mostSize}

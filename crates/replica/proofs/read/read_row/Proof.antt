@@ -7,7 +7,7 @@ use borrow.Author.Tests.{le-leb, lt-leb, not-false}
 use mathlib.Core.Path.{_≡_, _∙_}
 use mathlib.Core.Bool.{true, false}
 use mathlib.Core.List.{List, []}
-use Rattle.script.specs.declared.Replica.{Replica}
+use Rattle.record.specs.declared.Replica.{Replica}
 use Rattle.script.specs.Lines.{textOf, rowAt}
 use Rattle.script.specs.Sound.{Sound}
 use Rattle.script.proofs.Decided.{sound?}

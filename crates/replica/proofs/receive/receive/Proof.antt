@@ -10,7 +10,7 @@ use mathlib.Core.Bool.{Bool, true, decide, not}
 use mathlib.Core.List.{List, []}
 use lib.ListN.{drop}
 use Rattle.position.specs.Positions.{idsOf}
-use Rattle.script.specs.declared.Replica.{Replica}
+use Rattle.record.specs.declared.Replica.{Replica}
 use Rattle.script.specs.declared.table.Found.{Found}
 use Rattle.script.specs.Lines.{decodeTable}
 use Rattle.script.specs.Sound.{Sound}

@@ -13,7 +13,7 @@ use lib.Dec.{leb}
 use lib.ListN.{length, replicate}
 use Rattle.rows.specs.Rows.{filled, flat, slotsOf}
 use Rattle.rows.proofs.Slots.{zeros, filled-is}
-use Rattle.script.specs.declared.Replica.{Replica}
+use Rattle.record.specs.declared.Replica.{Replica}
 use Rattle.script.specs.Lines.{tableSize, encodeTable}
 use Rattle.format.specs.Answers.{firstOf}
 use Rattle.effect.specs.Held.{unchanged}
