@@ -22,6 +22,7 @@ END {
     printf "\n"
     row("the second program over ours", "second", "ours", "")
     row("crdts List over ours", "crdts", "ours", "")
+    row("  the same, its patch as bytes", "crdts-bytes", "ours", "")
     row("Yjs Y.Array over ours", "yjs", "ours", "")
     row("ours over or-ing by cc -O3", "ours", "floor-cc", "or-ing")
     row("ours over or-ing by clang -O3", "ours", "floor-clang", "or-ing")

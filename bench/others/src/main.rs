@@ -4,6 +4,8 @@
 //! system, kind, rows in use and nanoseconds, and the checksum of the script at the end. Panics where a call
 //! is refused or the two copies end unlike.
 
+#[cfg(feature = "bytes")]
+mod crdts_bytes;
 mod crdts_list;
 mod second_replica;
 mod trace;
@@ -92,4 +94,6 @@ fn main() {
     let edits = trace::read(&name);
     measure::<second_replica::SecondReplica>("second", &edits, SECOND_ROUNDS);
     measure::<crdts_list::CrdtsList>("crdts", &edits, CRDTS_ROUNDS);
+    #[cfg(feature = "bytes")]
+    measure::<crdts_bytes::CrdtsBytes>("crdts-bytes", &edits, CRDTS_ROUNDS);
 }
