@@ -101,7 +101,7 @@ uint32_t replica_start(uint8_t *record, size_t record_len, uint8_t *table, size_
  * Inserts a line with this text before a row, from 0; a row equal to the number in use puts it last. The draw is
  * any number and picks among the free places between the neighbours, from the lowest. Best is a random one, and
  * for a line put last a small one, 0 to 63, say: each such line takes its part of the places that are left, and
- * draws over all numbers use them up (answer 12) after some hundred lines. Done, the patch to send to every
+ * draws over all numbers use them up (answer 12) after little more than a hundred. Done, the patch to send to every
  * other host stands at the front of `patch`, its length is in `written`, and the bytes behind it are as they
  * were.
  * Refuses with 1, 10, 8, 9, 7, 11, 12, 13, in this order.

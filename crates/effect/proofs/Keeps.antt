@@ -11,11 +11,10 @@ use lib.Dec.{eqb}
 use lib.ListN.{length, take, getD, length-take}
 use Rattle.position.specs.Positions.{idsOf}
 use Rattle.record.specs.declared.Replica.{Replica}
+use Rattle.record.specs.Records.{countOf, CountsFit, SoundRecord}
 use Rattle.script.specs.declared.table.Found.{Found}
 use Rattle.script.specs.declared.table.Found.the-variants.{Row, Gap}
 use Rattle.script.specs.Lines.{Line, noLine}
-use Rattle.record.specs.Records.{countOf, CountsFit}
-use Rattle.record.specs.Records.{SoundRecord}
 use Rattle.script.specs.Sound.{SoundLine, Sound}
 use Rattle.script.specs.Find.{findIn}
 use Rattle.script.proofs.Finding.{Told, in-row, in-gap, told}

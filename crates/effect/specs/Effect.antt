@@ -13,10 +13,10 @@ use Rattle.position.specs.declared.Identifier.{Identifier}
 use Rattle.position.specs.Positions.{idsOf}
 use Rattle.rows.specs.Rows.{insertAt, removeAt, Upto}
 use Rattle.record.specs.declared.Replica.{Replica}
+use Rattle.record.specs.Records.{countOf}
 use Rattle.script.specs.declared.table.Found.{Found}
 use Rattle.script.specs.declared.table.Found.the-variants.{Row, Gap}
 use Rattle.script.specs.Lines.{Line, noLine, decodeTable}
-use Rattle.record.specs.Records.{countOf}
 use Rattle.script.specs.Find.{findIn}
 use Rattle.format.specs.declared.Edit.{Edit}
 use Rattle.format.specs.declared.Edit.the-variants.{Insert, Delete}

@@ -13,8 +13,8 @@ use borrow.Author.Tests.{ltb-true, leb-true, leb-false, eqb-true, eqb-false, not
 use Rattle.position.specs.Positions.{idsOf}
 use Rattle.position.proofs.Decided.{decided-true}
 use Rattle.record.specs.declared.Replica.{Replica}
-use Rattle.script.specs.Lines.{decodeTable}
 use Rattle.record.specs.Records.{countOf, recordRead}
+use Rattle.script.specs.Lines.{decodeTable}
 use Rattle.script.specs.Sound.{Sound}
 use Rattle.script.specs.Find.{findIn}
 use Rattle.script.proofs.Decided.{sound?}

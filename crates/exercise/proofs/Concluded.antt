@@ -5,8 +5,8 @@ use mathlib.Core.Path.{_≡_, sym, ap, _∙_, subst}
 use mathlib.Core.Logic.{_↔_, ⊎-elim}
 use mathlib.Core.List.{List, List·Memᴰ}
 use lib.ListN.{length}
-use Rattle.script.specs.Lines.{Line, encodeTable}
 use Rattle.record.specs.Records.{recordSize, countOf, CountsFit}
+use Rattle.script.specs.Lines.{Line, encodeTable}
 use Rattle.effect.specs.Held.{Held}
 use Rattle.effect.proofs.Keeps.{SoundHeld}
 use Rattle.exercise.specs.World.{Host, World, begin, Site, Call, run}

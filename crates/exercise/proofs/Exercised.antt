@@ -10,8 +10,8 @@ use mathlib.Core.Logic.{_⊎_, inl, inr, ⊎-elim, by-cases}
 use mathlib.Core.List.{List, [], _∷_, List·Memᴰ, List·Memᴰ·head, List·Memᴰ·tail, List·Memᴰ·cases-cons, List·Memᴰ·not-nil}
 use lib.Dec.{eqb, ltb}
 use lib.ListN.{length, take, getD, replicate, length-replicate}
-use Rattle.script.specs.Lines.{tableSize}
 use Rattle.record.specs.Records.{recordSize}
+use Rattle.script.specs.Lines.{tableSize}
 use Rattle.host.specs.Calls.{Called, OwnCalled, receiveBytes, insertBytes, deleteBytes}
 use Rattle.effect.proofs.Keeps.{SoundHeld}
 use Rattle.exercise.specs.World.{Host, World, keeps, begin, Site, Call, insert, delete, receive, changed, own, offer, step, run}

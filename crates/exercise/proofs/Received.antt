@@ -10,8 +10,8 @@ use mathlib.Core.List.{List}
 use lib.Dec.{eqb, leb, ltb}
 use borrow.Author.Tests.{leb-false, eqb-false, lt-ltb, eq-eqb}
 use Rattle.record.specs.declared.Replica.{Replica}
-use Rattle.script.specs.Lines.{decodeTable}
 use Rattle.record.specs.Records.{countOf, recordRead, recordWritten}
+use Rattle.script.specs.Lines.{decodeTable}
 use Rattle.format.specs.Patches.{patchBytes}
 use Rattle.format.proofs.Checked.{Passed, either-way, answer-done}
 use Rattle.patch.specs.Read.{readOne}

@@ -13,10 +13,10 @@ use Rattle.position.specs.Positions.{positionOf}
 use Rattle.position.proofs.Ids.{position-ids}
 use Rattle.rows.specs.Rows.{filled}
 use Rattle.record.specs.declared.Replica.{Replica}
-use Rattle.script.specs.Lines.{Line, tableSize, decodeRow, rowAt, decodeTable}
 use Rattle.record.specs.Records.{recordSize, recordBytes, recordOf, recordRead, recordWritten}
-use Rattle.script.specs.Sound.{Sound}
 use Rattle.record.proofs.RecordBack.{sound-fits, record-length, record-back}
+use Rattle.script.specs.Lines.{Line, tableSize, decodeRow, rowAt, decodeTable}
+use Rattle.script.specs.Sound.{Sound}
 use Rattle.format.specs.declared.Edit.{Edit}
 use Rattle.format.specs.declared.Edit.the-variants.{Insert, Delete}
 use Rattle.format.specs.declared.Patch.{Patch}

@@ -13,9 +13,9 @@ use Rattle.position.specs.Positions.{idsOf, authorOf}
 use Rattle.position.specs.Order.{orderOf}
 use Rattle.position.specs.declared.order.Order.the-variants.{Same}
 use Rattle.position.proofs.Ordered.{is-same}
+use Rattle.record.specs.Records.{countOf}
 use Rattle.script.specs.declared.table.Found.{Found}
 use Rattle.script.specs.Lines.{Line, noLine}
-use Rattle.record.specs.Records.{countOf}
 use Rattle.script.specs.Find.{findIn}
 use Rattle.script.proofs.Finding.{placeAt, Told, in-row, in-gap, told, found-same}
 use Rattle.format.specs.declared.Edit.{Edit}

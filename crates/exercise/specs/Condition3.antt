@@ -7,8 +7,8 @@ use mathlib.Core.Logic.{_↔_, _⊎_}
 use mathlib.Core.List.{List, List·Memᴰ}
 use lib.ListN.{length, drop, getD}
 use Rattle.rows.specs.Rows.{flat}
-use Rattle.script.specs.Lines.{Line, decodeTable}
 use Rattle.record.specs.Records.{countOf, recordRead}
+use Rattle.script.specs.Lines.{Line, decodeTable}
 use Rattle.replica.specs.declared.compare.Lack.{Lack}
 use Rattle.replica.specs.Compare.{noLack, compareCall}
 use Rattle.host.specs.Calls.{lacksSize, lackBytes, receiveBytes, compareBytes}

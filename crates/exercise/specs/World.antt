@@ -7,8 +7,8 @@ use mathlib.Core.Bool.{Bool, cond, _||_}
 use mathlib.Core.List.{List, [], _∷_}
 use lib.Dec.{eqb, ltb}
 use lib.ListN.{length, take, getD, replicate}
-use Rattle.script.specs.Lines.{tableSize}
 use Rattle.record.specs.Records.{recordSize}
+use Rattle.script.specs.Lines.{tableSize}
 use Rattle.host.specs.Calls.{OwnCalled, startBytes, receiveBytes, insertBytes, deleteBytes}
 
 -- what a host keeps: the bytes of its record and its table, and the patches that it has received, the

@@ -13,10 +13,10 @@ use lib.Dec.{eqb}
 use lib.ListN.{length, take, drop, take-append-drop}
 use lib.Seq.{take-at, drop-drop}
 use Rattle.rows.proofs.Digits.{Bytes}
-use Rattle.script.specs.Lines.{rowSize, textLengthOf, textOf, rowAt, decodeTable}
 use Rattle.record.specs.Records.{recordSize, nobody, recordRead, recordWritten}
-use Rattle.script.proofs.Decided.{sound?}
 use Rattle.record.proofs.RecordBack.{bytes-of-record}
+use Rattle.script.specs.Lines.{rowSize, textLengthOf, textOf, rowAt, decodeTable}
+use Rattle.script.proofs.Decided.{sound?}
 use Rattle.format.specs.Answers.{firstOf}
 use Rattle.format.proofs.Checked.{refused-alike}
 use Rattle.patch.specs.Read.{readFirst, readOne}

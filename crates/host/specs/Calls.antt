@@ -10,8 +10,8 @@ use lib.Dec.{eqb}
 use lib.ListN.{length}
 use Rattle.rows.specs.Numbers.{bytesOf}
 use Rattle.rows.specs.Rows.{flat}
-use Rattle.script.specs.Lines.{textStart}
 use Rattle.record.specs.Records.{recordSize, countsSize, countsOf, recordRead, recordWritten}
+use Rattle.script.specs.Lines.{textStart}
 use Rattle.format.specs.Answers.{firstOf}
 use Rattle.patch.specs.Read.{readFirst}
 use Rattle.effect.specs.Held.{Outcome}

@@ -5,7 +5,7 @@ use rows::numbers::put_1;
 use rows::numbers::put_4;
 ghost use mathlib.Core.Path.{_≡_};
 ghost use lib.ListN.{length};
-ghost use Rattle.rows.specs.Rows.{flat, written};
+ghost use Rattle.rows.specs.Rows.{flat};
 ghost use Rattle.host.specs.Calls.{lacksSize, lackBytes};
 
 pub const LACK: usize = 9;

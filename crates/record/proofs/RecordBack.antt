@@ -12,8 +12,7 @@ use Rattle.rows.proofs.Digits.{Bytes, bytes-drop, read-on, bytes-length}
 use Rattle.rows.proofs.Digits.{num-back, num-there, bytes-back, byte-there, byte-back}
 use Rattle.rows.proofs.Slots.{Each, flat-length, rows-back, rows-bytes}
 use Rattle.record.specs.declared.Replica.{Replica}
-use Rattle.record.specs.Records.{recordBytes, countFirst, recordOf}
-use Rattle.record.specs.Records.{SoundRecord}
+use Rattle.record.specs.Records.{SoundRecord, recordBytes, countFirst, recordOf}
 
 -- a record that its bytes can hold
 pub record FittingRecord (r : Replica) : Type 0 where

@@ -11,8 +11,8 @@ use lib.ListN.{length}
 use Rattle.position.specs.Positions.{idsOf}
 use Rattle.position.proofs.Decided.{decided-true}
 use Rattle.record.specs.declared.Replica.{Replica}
-use Rattle.script.specs.Lines.{decodeTable}
 use Rattle.record.specs.Records.{countOf}
+use Rattle.script.specs.Lines.{decodeTable}
 use Rattle.script.specs.Sound.{Sound}
 use Rattle.script.specs.Find.{findIn}
 use Rattle.script.proofs.Decided.{sound?}

@@ -15,8 +15,8 @@ use Rattle.position.proofs.Authors.{author-least}
 use Rattle.rows.specs.Rows.{filled}
 use Rattle.rows.proofs.Slots.{filled-length, filled-zero}
 use Rattle.record.specs.declared.Replica.{Replica}
-use Rattle.script.specs.Lines.{decodeTable}
 use Rattle.record.specs.Records.{countOf}
+use Rattle.script.specs.Lines.{decodeTable}
 use Rattle.script.specs.Sound.{Sound}
 use Rattle.script.specs.Find.{findIn}
 use Rattle.script.proofs.Tables.{lines-length}

@@ -6,8 +6,8 @@ use mathlib.Core.List.{List, [], _∷_}
 use lib.Dec.{eqb, leb, ltb}
 use Rattle.position.specs.Positions.{idsOf}
 use Rattle.record.specs.declared.Replica.{Replica}
-use Rattle.script.specs.Lines.{decodeTable}
 use Rattle.record.specs.Records.{countOf}
+use Rattle.script.specs.Lines.{decodeTable}
 use Rattle.script.specs.Find.{findIn}
 use Rattle.format.specs.Answers.{firstOf}
 use Rattle.patch.specs.declared.read.Reading.{Reading}

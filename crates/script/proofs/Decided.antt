@@ -9,9 +9,9 @@ use Rattle.position.specs.Positions.{authorOf}
 use Rattle.position.specs.Order.{_≺_}
 use Rattle.position.proofs.Decided.{by-field, implied?, each-below?, each-within?, line-position?, under?}
 use Rattle.record.specs.declared.Replica.{Replica}
-use Rattle.script.specs.Lines.{tableSize, rowSize, Line, usedOf, textLengthOf, decodeRow, rowAt}
 use Rattle.record.specs.Records.{countOf}
 use Rattle.record.proofs.Decided.{sound-record?}
+use Rattle.script.specs.Lines.{tableSize, rowSize, Line, usedOf, textLengthOf, decodeRow, rowAt}
 use Rattle.script.specs.Sound.{SoundLine, SoundRow, Sound}
 
 sound-line? : (counts : List ℕ) (l : Line) → Dec (SoundLine counts l)

@@ -8,8 +8,8 @@ use mathlib.Core.List.{List}
 use lib.ListN.{length, getD}
 use Rattle.position.specs.Order.{_≺_}
 use Rattle.record.specs.declared.Replica.{Replica}
-use Rattle.script.specs.Lines.{Line, noLine, encodeTable, decodeRow, rowAt, decodeTable}
 use Rattle.record.specs.Records.{SoundRecord}
+use Rattle.script.specs.Lines.{Line, noLine, encodeTable, decodeRow, rowAt, decodeTable}
 use Rattle.script.specs.Sound.{SoundLine, Sound}
 use Rattle.script.proofs.Encoded.{row-back, line-fits, row-sound}
 use Rattle.script.proofs.Tables.{table-length, table-row, table-unused}

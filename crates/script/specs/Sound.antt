@@ -9,8 +9,8 @@ use lib.ListN.{length, getD}
 use Rattle.position.specs.Positions.{LinePosition, authorOf}
 use Rattle.position.specs.Order.{_≺_}
 use Rattle.record.specs.declared.Replica.{Replica}
-use Rattle.script.specs.Lines.{tableSize, rowSize, Line, usedOf, textLengthOf, decodeRow, rowAt}
 use Rattle.record.specs.Records.{countOf, SoundRecord}
+use Rattle.script.specs.Lines.{tableSize, rowSize, Line, usedOf, textLengthOf, decodeRow, rowAt}
 
 -- "all ranges hold" of a line: its position is a line's position, "Patch number, per site: 1 to
 -- 1,000,000", "Text of a line: 0 to 48 bytes"; and "each line's number is at most the count of its

@@ -10,8 +10,8 @@ use lib.Seq.{getD-drop}
 use Rattle.rows.specs.Numbers.{numAt}
 use Rattle.rows.proofs.Digits.{Bytes, bytes-drop}
 use Rattle.record.specs.declared.Replica.{Replica}
-use Rattle.script.specs.Lines.{decodeRow, rowAt}
 use Rattle.record.specs.Records.{SoundRecord}
+use Rattle.script.specs.Lines.{decodeRow, rowAt}
 use Rattle.script.specs.Sound.{Sound}
 use Rattle.sound.specs.Steps.{RowFits, word, RowRises, rowBefore, TableFits}
 use Rattle.sound.proofs.OneNumber.{RowPosition}

@@ -9,8 +9,8 @@ use lib.ListN.{length, getD, replicate}
 use Rattle.position.specs.Positions.{Proper, identifier}
 use Rattle.rows.specs.Numbers.{numAt}
 use Rattle.rows.specs.Rows.{Upto, AllZero}
-use Rattle.script.specs.Lines.{tableSize, usedOf, numberOf, textLengthOf, rowAt}
 use Rattle.record.specs.Records.{countOf}
+use Rattle.script.specs.Lines.{tableSize, usedOf, numberOf, textLengthOf, rowAt}
 
 -- The masks: 48 zeros and 48 of 255, so that what stands from 48 - n on is zero before place n and
 -- 255 from it on; and 255 where one of the eight identifiers starts.

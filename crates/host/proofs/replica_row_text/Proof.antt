@@ -9,8 +9,8 @@ use mathlib.Core.Path.{_≡_, sym, ap, _∙_}
 use mathlib.Core.List.{List}
 use lib.ListN.{length}
 use Rattle.record.specs.declared.Replica.{Replica}
-use Rattle.script.specs.Lines.{textStart}
 use Rattle.record.specs.Records.{recordRead}
+use Rattle.script.specs.Lines.{textStart}
 use Rattle.replica.specs.Read.{TextRead, readCall}
 use Rattle.replica.proofs.RowRead.{read-done}
 use Rattle.host.specs.Calls.{rowText}
