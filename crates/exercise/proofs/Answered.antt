@@ -25,9 +25,9 @@ use Rattle.format.specs.Patches.{patchBytes}
 use Rattle.format.specs.WellFormed.{WellFormed}
 use Rattle.format.proofs.Checked.{among, answer-done}
 use Rattle.format.proofs.Sizes.{sizes}
-use Rattle.patch.specs.declared.read.Reading.{Reading}
-use Rattle.patch.specs.Read.{readOne}
-use Rattle.patch.proofs.RoundTrip.{one-reads-back}
+use Rattle.reader.specs.declared.Reading.{Reading}
+use Rattle.reader.specs.Read.{readOne}
+use Rattle.reader.proofs.Readings.{one-reads-back}
 use Rattle.effect.specs.Held.{Held, Outcome, heldIn, unchanged}
 use Rattle.effect.specs.Effect.{isRow, doneBy, Covers, inserts}
 use Rattle.effect.proofs.Decided.{covers?}

@@ -12,8 +12,8 @@ use lib.Dec.{eqb, ltb}
 use lib.ListN.{length, take, getD, replicate, length-replicate}
 use Rattle.record.specs.Records.{recordSize}
 use Rattle.script.specs.Lines.{tableSize}
-use Rattle.host.specs.Calls.{Called, OwnCalled, receiveBytes, insertBytes, deleteBytes}
 use Rattle.effect.proofs.Keeps.{SoundHeld}
+use Rattle.host.specs.Calls.{Called, OwnCalled, receiveBytes, insertBytes, deleteBytes}
 use Rattle.exercise.specs.World.{Host, World, keeps, begin, Site, Call, insert, delete, receive, changed, own, offer, step, run}
 use Rattle.exercise.specs.Scripts.{patchOf}
 use Rattle.exercise.proofs.Members.{mem-at}

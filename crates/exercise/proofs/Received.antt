@@ -14,8 +14,8 @@ use Rattle.record.specs.Records.{countOf, recordRead, recordWritten}
 use Rattle.script.specs.Lines.{decodeTable}
 use Rattle.format.specs.Patches.{patchBytes}
 use Rattle.format.proofs.Checked.{Passed, either-way, answer-done}
-use Rattle.patch.specs.Read.{readOne}
-use Rattle.patch.proofs.RoundTrip.{one-is-read}
+use Rattle.reader.specs.Read.{readOne}
+use Rattle.reader.proofs.Readings.{one-is-read}
 use Rattle.effect.specs.Held.{Held, Outcome, heldIn, unchanged}
 use Rattle.effect.specs.Effect.{doneAnswer, effect, doneBy, Takes}
 use Rattle.effect.proofs.Edits.{done-answers}

@@ -23,19 +23,19 @@ use Rattle.format.specs.declared.Patch.{Patch}
 use Rattle.format.specs.Answers.{firstOf}
 use Rattle.format.specs.Patches.{patchBytes}
 use Rattle.format.proofs.Checked.{Passed, either-way, passed-done}
-use Rattle.patch.specs.declared.read.Reading.{Reading}
-use Rattle.patch.specs.Read.{readingOf, readOne}
-use Rattle.patch.proofs.RoundTrip.{one-reads-back}
+use Rattle.reader.specs.declared.Reading.{Reading}
+use Rattle.reader.specs.Read.{readingOf, readOne}
+use Rattle.reader.proofs.Readings.{one-reads-back}
 use Rattle.effect.specs.Held.{Held, Outcome, heldIn, recordHolding, tableHolding, unchanged, leaving}
 use Rattle.effect.specs.Effect.{doneAnswer, effect, Takes}
 use Rattle.effect.proofs.Keeps.{SoundHeld, held-sound, held-back}
 use Rattle.replica.specs.Start.{empty, startChecks, startCall}
-use Rattle.replica.specs.Own.{OwnOutcome, untouched, ownPatch, ownEdit}
-use Rattle.replica.specs.Insert.{placeBefore, insertChecks, insertCall}
-use Rattle.replica.specs.Delete.{deleteChecks, deleteCall}
-use Rattle.replica.proofs.OwnDone.{OwnDone}
-use Rattle.replica.proofs.Inserted.{insert-done}
-use Rattle.replica.proofs.Deleted.{row-struck, delete-done}
+use Rattle.edits.specs.Own.{OwnOutcome, untouched, ownPatch, ownEdit}
+use Rattle.edits.specs.Insert.{placeBefore, insertChecks, insertCall}
+use Rattle.edits.specs.Delete.{deleteChecks, deleteCall}
+use Rattle.edits.proofs.OwnDone.{OwnDone}
+use Rattle.edits.proofs.Inserted.{insert-done}
+use Rattle.edits.proofs.Deleted.{row-struck, delete-done}
 use Rattle.host.specs.Calls.{Called, called, startBytes, OwnCalled, insertBytes, deleteBytes}
 use Rattle.exercise.specs.Scripts.{patchOf, besideOf}
 

@@ -11,7 +11,7 @@ use Rattle.script.specs.Lines.{Line, noLine}
 use Rattle.format.specs.declared.Edit.{Edit}
 use Rattle.format.specs.declared.Edit.the-variants.{Insert, Delete}
 use Rattle.format.specs.declared.Patch.{Patch}
-use Rattle.patch.specs.Read.{readOne}
+use Rattle.reader.specs.Read.{readOne}
 
 -- the patch that bytes are, and the text beside it
 abbrev pub patchOf : List ℕ → Patch

@@ -3,8 +3,8 @@
 //
 // Rests on `position` for places, on `rows` for numbers, on `record` for the counts, and on `script` for the
 // identifier's bytes. The bytes are specs/Patches.antt and the rules specs/WellFormed.antt; what a reader of the
-// format has to believe is those two. Reading and writing are the crate `patch`. The answer numbers stand here
-// too (`answers`), below everything that answers with one.
+// format has to believe is those two. Reading and writing are the crates `reader` and `writer`. The answer
+// numbers stand here too (`answers`), below everything that answers with one.
 use position::Position;
 
 pub mod answers;

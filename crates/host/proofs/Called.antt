@@ -7,7 +7,7 @@ use mathlib.Core.List.{List}
 use Rattle.record.specs.declared.Replica.{Replica}
 use Rattle.record.specs.Records.{recordRead, recordWritten}
 use Rattle.effect.specs.Held.{Outcome}
-use Rattle.replica.specs.Own.{OwnOutcome}
+use Rattle.edits.specs.Own.{OwnOutcome}
 use Rattle.host.specs.Calls.{called, ownCalled}
 
 module _ (state : List ℕ) {after : List ℕ} {r : Replica} where

@@ -19,19 +19,19 @@ use Rattle.script.specs.Lines.{rowSize, textLengthOf, textOf, rowAt, decodeTabl
 use Rattle.script.proofs.Decided.{sound?}
 use Rattle.format.specs.Answers.{firstOf}
 use Rattle.format.proofs.Checked.{refused-alike}
-use Rattle.patch.specs.Read.{readFirst, readOne}
+use Rattle.reader.specs.Read.{readFirst, readOne}
 use Rattle.effect.specs.Held.{Outcome, unchanged, leaving}
 use Rattle.effect.specs.Effect.{doneBy}
 use Rattle.effect.proofs.Edits.{done-answers}
 use Rattle.replica.specs.Grounds.{unsound}
 use Rattle.replica.specs.Start.{empty, startChecks, startCall}
 use Rattle.replica.specs.Receive.{receiveChecks, receiveCall}
-use Rattle.replica.specs.Own.{OwnOutcome, untouched, ownEdit}
-use Rattle.replica.specs.Insert.{insertChecks, insertCall}
-use Rattle.replica.specs.Delete.{deleteChecks, deleteCall}
 use Rattle.replica.specs.Read.{TextRead, readChecks, readCall}
 use Rattle.replica.proofs.RowRead.{read-done}
 use Rattle.replica.proofs.Tests.{refusal-is}
+use Rattle.edits.specs.Own.{OwnOutcome, untouched, ownEdit}
+use Rattle.edits.specs.Insert.{insertChecks, insertCall}
+use Rattle.edits.specs.Delete.{deleteChecks, deleteCall}
 use Rattle.host.specs.Calls.{Called, called, startBytes, receiveBytes}
 use Rattle.host.specs.Calls.{OwnCalled, ownCalled, insertBytes, deleteBytes, TextAt, rowText, ComparedBytes, compareBytes, firstPatch}
 

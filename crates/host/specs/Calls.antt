@@ -13,16 +13,16 @@ use Rattle.rows.specs.Rows.{flat}
 use Rattle.record.specs.Records.{recordSize, countsSize, countsOf, recordRead, recordWritten}
 use Rattle.script.specs.Lines.{textStart}
 use Rattle.format.specs.Answers.{firstOf}
-use Rattle.patch.specs.Read.{readFirst}
+use Rattle.reader.specs.Read.{readFirst}
 use Rattle.effect.specs.Held.{Outcome}
 use Rattle.replica.specs.declared.compare.Lack.{Lack}
 use Rattle.replica.specs.Start.{startCall}
 use Rattle.replica.specs.Receive.{receiveCall}
-use Rattle.replica.specs.Own.{OwnOutcome}
-use Rattle.replica.specs.Insert.{insertCall}
-use Rattle.replica.specs.Delete.{deleteCall}
 use Rattle.replica.specs.Read.{TextRead, readCall}
 use Rattle.replica.specs.Compare.{compareChecks, compareCall}
+use Rattle.edits.specs.Own.{OwnOutcome}
+use Rattle.edits.specs.Insert.{insertCall}
+use Rattle.edits.specs.Delete.{deleteCall}
 
 -- what a call answers, and what the bytes of record and table then are
 pub record Called : Type 0 where

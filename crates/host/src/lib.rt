@@ -2,29 +2,29 @@
 // these with numbers and byte slices"). `rt staticlib host` makes the archive that it links;
 // include/script_replica.h declares these functions and says what each promises.
 //
-// Rests on `replica` for the operations, on `record` for its 67 bytes and on `patch` for the first
+// Rests on `replica` and `edits` for the operations, on `record` for its 67 bytes and on `reader` for the first
 // patch of a run. Each call reads the record, makes the operation's call and writes the record back; each
 // takes any bytes, of any length, and any numbers. What a call gives is the operation's own definition
-// (`replica`'s specs/), said of bytes in specs/Calls.antt. A slice is a pointer and then a length for C.
+// (its crate's specs/), said of bytes in specs/Calls.antt. A slice is a pointer and then a length for C.
 //
 // A record's bytes are called `state` here: `record` is a word of the proof language.
 
 mod lacks;
 
+use edits::delete::delete;
+use edits::insert::insert;
 use format::answers::DONE;
 use format::answers::MALFORMED;
 use format::answers::UNSOUND;
 use lacks::LACKS;
 use lacks::write_lacks;
-use patch::read::read_first;
+use reader::read_first;
 use record::COUNTS;
 use record::RECORD;
 use record::read;
 use record::read_counts;
 use record::write;
 use replica::compare::compare_counts;
-use replica::delete::delete;
-use replica::insert::insert;
 use replica::read::read_row;
 use replica::receive::receive;
 use replica::start::start;

@@ -9,8 +9,8 @@ use mathlib.Core.List.{List, [], _∷_}
 use borrow.Author.Tests.{eq-eqb, ne-eqb}
 use lib.ListN.{length, take, drop, length-take, length-drop}
 use lib.Seq.{length-take-le, take-length, drop-drop}
-use Rattle.patch.specs.Read.{readFirst}
-use Rattle.patch.proofs.RoundTrip.{what-is-read}
+use Rattle.reader.specs.Read.{readFirst}
+use Rattle.reader.proofs.Readings.{what-is-read}
 use Rattle.listed.specs.Listing.{firstIn, cut, patchesIn}
 
 -- what is read stands in the bytes

@@ -18,8 +18,8 @@ use Rattle.script.specs.Lines.{Line, noLine}
 use Rattle.script.specs.Sound.{Sound}
 use Rattle.script.proofs.Held.{SoundLines, sound-lines}
 use Rattle.format.proofs.Sizes.{sizes}
-use Rattle.patch.specs.Read.{readFirst}
-use Rattle.patch.proofs.RoundTrip.{what-is-read}
+use Rattle.reader.specs.Read.{readFirst}
+use Rattle.reader.proofs.Readings.{what-is-read}
 use Rattle.effect.specs.Held.{Outcome}
 use Rattle.replica.specs.Receive.{receiveCall}
 use Rattle.replica.proofs.Numbers.{receive-numbers}

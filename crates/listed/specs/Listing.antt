@@ -6,7 +6,7 @@ use mathlib.Core.List.{List, [], _∷_, _++_}
 use lib.Dec.{eqb, ltb}
 use lib.ListN.{length, take, drop}
 use Rattle.script.specs.Lines.{Line, decodeTable}
-use Rattle.patch.specs.Read.{readFirst}
+use Rattle.reader.specs.Read.{readFirst}
 use Rattle.effect.specs.Held.{Outcome, leaving}
 use Rattle.replica.specs.Start.{empty}
 use Rattle.replica.specs.Receive.{receiveCall}

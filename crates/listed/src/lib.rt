@@ -2,7 +2,7 @@
 // place and its answer, then the number of rows and the rows. The program itself, crate `listing`, only
 // reads, calls `list` and writes.
 //
-// Rests on `replica` for the replica that is fed, on `patch` for where a patch ends, on `script` for what
+// Rests on `replica` for the replica that is fed, on `reader` for where a patch ends, on `script` for what
 // stands in a row, and on `rows` to copy bytes. What is written for every input is one definition,
 // specs/Listing.antt; that it is never longer than LONGEST is proofs/Longest.antt.
 
@@ -13,7 +13,7 @@ use format::answers::MALFORMED;
 use lines::patch_line;
 use lines::show_rows;
 use output::put;
-use patch::read::read_first;
+use reader::read_first;
 use record::Replica;
 use record::SITES;
 use replica::receive::receive;

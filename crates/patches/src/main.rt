@@ -5,7 +5,7 @@
 // patches that are values and never were bytes are tried on the writer. The output is compared with the
 // file `stdout`, which is made from the document.
 //
-// Rests on `patch`, `format`, `record` and `position`, and on `show` and `io`.
+// Rests on `reader`, `writer`, `format`, `record` and `position`, and on `show` and `io`.
 mod feed;
 
 use format::Edit;
@@ -13,14 +13,14 @@ use format::MOST;
 use format::Patch;
 use format::TEXT;
 use libc::STDIN_FILENO;
-use patch::read::Reading;
-use patch::read::read_first;
-use patch::read::read_one;
-use patch::write::Written;
-use patch::write::write;
 use position::Identifier;
 use position::Position;
+use reader::Reading;
+use reader::read_first;
+use reader::read_one;
 use record::SITES;
+use writer::Written;
+use writer::write;
 
 // The most bytes that a case has.
 const CASE: usize = 400;

@@ -14,8 +14,8 @@ use Rattle.script.proofs.Tables.{lines-length}
 use Rattle.format.specs.declared.Patch.{Patch}
 use Rattle.format.specs.WellFormed.{WellFormed}
 use Rattle.format.proofs.Checked.{Passed}
-use Rattle.patch.specs.Read.{readOne}
-use Rattle.patch.proofs.RoundTrip.{one-is-read}
+use Rattle.reader.specs.Read.{readOne}
+use Rattle.reader.proofs.Readings.{one-is-read}
 use Rattle.effect.specs.Held.{heldIn}
 use Rattle.effect.specs.Effect.{Covers, Takes}
 use Rattle.effect.proofs.Decided.{covers?}

@@ -21,12 +21,12 @@ use Rattle.format.specs.declared.Patch.{Patch}
 use Rattle.format.specs.Patches.{patchBytes}
 use Rattle.format.proofs.Checked.{Passed, passed-done}
 use Rattle.format.proofs.Sizes.{sizes}
-use Rattle.patch.specs.Read.{readingOf}
-use Rattle.patch.proofs.RoundTrip.{one-reads-back}
+use Rattle.reader.specs.Read.{readingOf}
+use Rattle.reader.proofs.Readings.{one-reads-back}
 use Rattle.effect.specs.Held.{heldIn, unchanged}
 use Rattle.effect.specs.Effect.{isRow, doneBy, inserts, Takes}
-use Rattle.replica.specs.Grounds.{full, ownCount}
 use Rattle.effect.proofs.Decided.{covers?}
+use Rattle.replica.specs.Grounds.{full, ownCount}
 use Rattle.replica.specs.Receive.{receiveChecks, receiveCall}
 
 -- a ground that only an insert has

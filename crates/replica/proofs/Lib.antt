@@ -1,14 +1,7 @@
 pub mod Accepted
 pub mod Arrival
 pub mod Compared
-pub mod Deleted
-pub mod Inserted
-pub mod Neighbours
-pub mod NewPlace
 pub mod Numbers
-pub mod OwnAccepted
-pub mod OwnDone
-pub mod OwnPatch
 pub mod Received
 pub mod RowRead
 pub mod Started

@@ -11,7 +11,7 @@ use Rattle.record.specs.declared.Replica.{Replica}
 use Rattle.script.specs.Lines.{decodeTable}
 use Rattle.format.specs.declared.Patch.{Patch}
 use Rattle.format.specs.Answers.{firstOf}
-use Rattle.patch.specs.Read.{readOne}
+use Rattle.reader.specs.Read.{readOne}
 use Rattle.effect.specs.Held.{Outcome, unchanged}
 use Rattle.effect.specs.Effect.{doneBy}
 use Rattle.effect.proofs.Edits.{done-answers}

@@ -10,7 +10,7 @@ use Rattle.record.specs.declared.Replica.{Replica}
 use Rattle.script.specs.Sound.{Sound}
 use Rattle.format.specs.declared.Patch.{Patch}
 use Rattle.format.proofs.Checked.{Passed, either-way, answer-done}
-use Rattle.patch.specs.Read.{readOne}
+use Rattle.reader.specs.Read.{readOne}
 use Rattle.effect.specs.Held.{Outcome, heldIn, unchanged}
 use Rattle.effect.specs.Effect.{effect, doneBy, Takes}
 use Rattle.effect.proofs.Counted.{raised-length}

@@ -10,8 +10,8 @@ use Rattle.record.specs.Records.{countOf}
 use Rattle.script.specs.Lines.{decodeTable}
 use Rattle.script.specs.Find.{findIn}
 use Rattle.format.specs.Answers.{firstOf}
-use Rattle.patch.specs.declared.read.Reading.{Reading}
-use Rattle.patch.specs.Read.{readOne}
+use Rattle.reader.specs.declared.Reading.{Reading}
+use Rattle.reader.specs.Read.{readOne}
 use Rattle.effect.specs.Held.{Outcome, unchanged}
 use Rattle.effect.specs.Effect.{isRow, doneBy, inserts}
 use Rattle.effect.proofs.Decided.{covers?}

@@ -11,7 +11,7 @@ use format::answers::OWN_AHEAD;
 use format::answers::POSITION_TAKEN;
 use format::answers::RECEIVED;
 use format::answers::UNSOUND;
-use patch::read::read_one;
+use reader::read_one;
 use record::Replica;
 use record::SITES;
 use record::count_of;

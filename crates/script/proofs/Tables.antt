@@ -7,8 +7,7 @@ use mathlib.Core.Path.{_≡_, sym, ap, _∙_}
 use mathlib.Core.List.{List, [], _++_, append-nil}
 use lib.ListN.{length, getD, length-drop}
 use Rattle.rows.proofs.Digits.{Bytes, bytes-drop}
-use Rattle.rows.proofs.Slots.{Each, slots-length, rows-length, rows-at}
-use Rattle.rows.proofs.Slots.{row-front, zero-behind, slots-back, slots-bytes}
+use Rattle.rows.proofs.Slots.{Each, slots-length, rows-length, rows-at, row-front, zero-behind, slots-back, slots-bytes}
 use Rattle.record.specs.declared.Replica.{Replica}
 use Rattle.script.specs.Lines.{Line, noLine, encodeRow, encodeTable, decodeRow, rowAt, decodeTable}
 use Rattle.script.specs.Sound.{Sound}

@@ -15,9 +15,9 @@ use Rattle.rows.specs.Numbers.{numAt}
 use Rattle.rows.proofs.Digits.{Bytes}
 use Rattle.script.specs.Lines.{usedOf, textLengthOf, identifiersOf, decodeRow}
 use Rattle.script.specs.Sound.{SoundRow}
+use Rattle.script.proofs.Identifiers.{identifiers-length}
 use Rattle.sound.specs.Steps.{SlotFits, authorByte, RowFits}
 use Rattle.sound.proofs.OneNumber.{RowPosition}
-use Rattle.script.proofs.Identifiers.{identifiers-length}
 use Rattle.sound.proofs.Identifiers.{slotAt, slot-at, author-at, author-most}
 
 -- a proper identifier is the pad where it has no site

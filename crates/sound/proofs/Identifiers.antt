@@ -8,9 +8,9 @@ use lib.ListN.{getD}
 use Rattle.position.specs.declared.Identifier.{Identifier}
 use Rattle.position.specs.Positions.{identifier, pad, authorOf}
 use Rattle.rows.specs.Numbers.{numAt}
+use Rattle.rows.specs.Rows.{Upto}
 use Rattle.script.specs.Lines.{usedOf, identifiersOf}
 use Rattle.script.proofs.Identifiers.{identifiers-length, identifier-at}
-use Rattle.rows.specs.Rows.{Upto}
 use Rattle.sound.specs.Steps.{SlotFits, authorByte}
 
 -- the identifier that starts at byte j of the eight

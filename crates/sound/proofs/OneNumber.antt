@@ -12,9 +12,9 @@ use Rattle.position.specs.Order.{numberOrder, identifierOrder, orderOf, _≺_}
 use Rattle.position.proofs.Ordered.{less-below, below-less, equal-same, more-above}
 use Rattle.rows.specs.Numbers.{numAt}
 use Rattle.rows.specs.Rows.{rowsOf}
-use Rattle.sound.proofs.Compared.{compared}
 use Rattle.rows.proofs.Digits.{Bytes, bytes-drop, num-drop, num-one}
 use Rattle.script.specs.Lines.{decodeIdentifier, identifiersOf}
+use Rattle.sound.proofs.Compared.{compared}
 use Rattle.sound.proofs.Zeros.{num-zero, num-positive}
 
 -- n slots of 3 bytes, u of them used: what is unused is zero, and the last byte used, a site, is not

@@ -6,8 +6,8 @@ use mathlib.Core.Path.{_≡_}
 use mathlib.Core.Logic.{_↔_, _⊎_, inl, inr, ⊎-elim}
 use mathlib.Core.List.{List}
 use Rattle.rows.specs.Numbers.{numAt}
-use Rattle.sound.proofs.Compared.{less-by-parts}
 use Rattle.rows.proofs.Digits.{Bytes, num-less, num-splits}
+use Rattle.sound.proofs.Compared.{less-by-parts}
 
 pub three-words : (a b : List ℕ) → Bytes a → Bytes b →
     (numAt 24 a 1 < numAt 24 b 1)

@@ -15,8 +15,8 @@ ghost use mathlib.Core.Bool.{true};
 ghost use mathlib.Core.Logic.{_↔_};
 ghost use Prim.Native.Nat.{_≤_};
 ghost use lib.ListN.{length};
-ghost use Rattle.script.specs.Lines.{tableSize};
 ghost use Rattle.rows.specs.Rows.{Upto};
+ghost use Rattle.script.specs.Lines.{tableSize};
 ghost use Rattle.sound.specs.Steps.{Fits, LastFits, RowFits, Rises, TableFits, behindMask, startMask};
 
 // The table of a record whose ranges hold.

@@ -2,7 +2,7 @@
 -- Assumes nothing.
 use borrow.Author.Needs.{needs}
 use Rattle.record.specs.declared.Replica.{Replica}
-use Rattle.replica.specs.Delete.{deleteCall}
+use Rattle.edits.specs.Delete.{deleteCall}
 use Rattle.host.specs.Calls.{deleteBytes}
 use Rattle.host.proofs.Called.{is-own-called}
 use Rattle.host.proofs.replica_delete.Statement.{statement}

@@ -2,7 +2,7 @@
 -- Assumes nothing.
 use borrow.Author.Needs.{needs}
 use Rattle.record.specs.declared.Replica.{Replica}
-use Rattle.replica.specs.Insert.{insertCall}
+use Rattle.edits.specs.Insert.{insertCall}
 use Rattle.host.specs.Calls.{insertBytes}
 use Rattle.host.proofs.Called.{is-own-called}
 use Rattle.host.proofs.replica_insert.Statement.{statement}

@@ -5,8 +5,8 @@ use borrow.Author.Needs.{needs}
 use borrow.Author.Tests.{eq-eqb, ne-eqb}
 use mathlib.Core.Path.{_≡_}
 use mathlib.Core.List.{List}
-use Rattle.patch.specs.declared.read.Reading.{Reading}
-use Rattle.patch.specs.Read.{readFirst}
+use Rattle.reader.specs.declared.Reading.{Reading}
+use Rattle.reader.specs.Read.{readFirst}
 use Rattle.host.specs.Calls.{firstPatch}
 use Rattle.host.proofs.replica_patch_first.Statement.{statement}
 use Rattle.host.proofs.replica_patch_first.Tie as tie

@@ -5,8 +5,8 @@ use native.Mathlib.Omega.{arith}
 use mathlib.Core.Path.{_≡_}
 use mathlib.Core.List.{List}
 use lib.ListN.{length}
-use Rattle.patch.specs.declared.read.Reading.{Reading}
-use Rattle.patch.specs.Read.{readFirst}
+use Rattle.reader.specs.declared.Reading.{Reading}
+use Rattle.reader.specs.Read.{readFirst}
 use Rattle.listed.specs.Listing.{firstIn}
 use Rattle.listed.proofs.Cuts.{none-length, some-length}
 use Rattle.listed.proofs.first_in.Statement.{statement}

@@ -10,8 +10,8 @@ use lib.Dec.{eqb}
 use lib.ListN.{getD}
 use Rattle.position.specs.declared.Identifier.{Identifier}
 use Rattle.position.specs.Positions.{pad, idsOf, authorOf}
-use Rattle.record.specs.Records.{countOf}
 use Rattle.rows.proofs.Answers.{refused, means, equal}
+use Rattle.record.specs.Records.{countOf}
 use Rattle.format.specs.declared.Edit.{Edit}
 use Rattle.format.specs.declared.Edit.the-variants.{Insert, Delete}
 use Rattle.format.specs.declared.Patch.{Patch}

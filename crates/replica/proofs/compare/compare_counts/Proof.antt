@@ -12,9 +12,9 @@ use lib.Seq.{take-all}
 use borrow.Author.Tests.{not-true, not-false}
 use Rattle.rows.proofs.Bytes.{copied-more}
 use Rattle.record.specs.Records.{CountsFit}
+use Rattle.record.proofs.Decided.{counts-fit?}
 use Rattle.format.specs.Answers.{firstOf}
 use Rattle.replica.specs.declared.compare.Lack.{Lack}
-use Rattle.record.proofs.Decided.{counts-fit?}
 use Rattle.replica.specs.Compare.{noLack, lackOf, compareChecks, compareCall}
 use Rattle.replica.proofs.Compared.{together-length, together-at}
 use Rattle.replica.proofs.Tests.{decision-is}

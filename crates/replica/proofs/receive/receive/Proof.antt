@@ -19,14 +19,14 @@ use Rattle.script.proofs.Decided.{sound?}
 use Rattle.format.specs.WellFormed.{WellFormed}
 use Rattle.format.specs.Answers.{firstOf}
 use Rattle.format.proofs.Checked.{Passed, Left, refuses, passes, is-done, all-passed}
-use Rattle.patch.specs.declared.read.Reading.{Reading}
-use Rattle.patch.specs.Read.{readOne}
-use Rattle.patch.proofs.RoundTrip.{one-is-read}
+use Rattle.reader.specs.declared.Reading.{Reading}
+use Rattle.reader.specs.Read.{readOne}
+use Rattle.reader.proofs.Readings.{one-is-read}
 use Rattle.effect.specs.Held.{Outcome, heldIn, unchanged}
 use Rattle.effect.specs.Effect.{doneBy, Takes}
 use Rattle.effect.specs.Steps.{Ready}
-use Rattle.replica.specs.Grounds.{unsound}
 use Rattle.effect.proofs.Decided.{covers?}
+use Rattle.replica.specs.Grounds.{unsound}
 use Rattle.replica.specs.Receive.{receiveChecks, receiveCall}
 use Rattle.replica.proofs.Accepted.{accepted-takes}
 use Rattle.replica.proofs.Tests.{refusal-is}

@@ -10,8 +10,8 @@ use lib.Bits.{bitAnd, bitOr, or-lt, and-le-l}
 use lib.ListN.{getD}
 use Rattle.position.specs.Positions.{Proper, identifier}
 use Rattle.rows.specs.Rows.{Upto}
-use Rattle.sound.specs.Steps.{SlotFits, behindMask, startMask}
 use Rattle.rows.proofs.Turns.{none, more, all, or-clear}
+use Rattle.sound.specs.Steps.{SlotFits, behindMask, startMask}
 use Rattle.sound.proofs.Masked.{behind, at-starts}
 use Rattle.sound.proofs.faults.slot_faults.Statement.{statement}
 use Rattle.sound.proofs.faults.slot_faults.Tie as tie

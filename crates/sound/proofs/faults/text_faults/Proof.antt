@@ -7,8 +7,8 @@ use mathlib.Core.Logic.{_↔_}
 use lib.Bits.{bitAnd}
 use lib.ListN.{getD}
 use Rattle.rows.specs.Rows.{Upto}
-use Rattle.sound.specs.Steps.{TextFits}
 use Rattle.rows.proofs.Turns.{none, more, all}
+use Rattle.sound.specs.Steps.{TextFits}
 use Rattle.sound.proofs.Masked.{behind}
 use Rattle.sound.proofs.faults.text_faults.Statement.{statement}
 use Rattle.sound.proofs.faults.text_faults.Tie as tie

@@ -9,11 +9,11 @@ use mathlib.Core.List.{List}
 use lib.ListN.{length, take, drop, length-take, length-drop}
 use Rattle.rows.specs.Numbers.{numAt}
 use Rattle.rows.proofs.Bytes.{rest-lent}
-use Rattle.script.specs.Lines.{rowAt}
 use Rattle.rows.specs.Rows.{Upto}
-use Rattle.sound.specs.Steps.{Fits, RowFits, Rises, word, rowBefore}
 use Rattle.rows.proofs.Answers.{accepted, refused, no-answer}
 use Rattle.rows.proofs.Turns.{one-more}
+use Rattle.script.specs.Lines.{rowAt}
+use Rattle.sound.specs.Steps.{Fits, RowFits, Rises, word, rowBefore}
 use Rattle.sound.proofs.scan.rows_fit.Statement.{statement}
 use Rattle.sound.proofs.scan.rows_fit.Tie as tie
 

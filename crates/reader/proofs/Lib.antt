@@ -1,0 +1,9 @@
+pub mod Back
+pub mod Composed
+pub mod Counts
+pub mod Placed
+pub mod Readings
+pub mod Repeated
+pub mod Sections
+pub mod Standing
+pub mod Whole
