@@ -1,0 +1,4 @@
+pub mod Answers
+pub mod Frame
+pub mod Lent
+pub mod Others
