@@ -8,7 +8,7 @@ DESTDIR ?=
 CC ?= cc
 CFLAGS ?= -O2
 WARNINGS = -std=c11 -Wall -Wextra -Wpedantic
-VERSION = 0.7.0
+VERSION = 0.8.0
 
 LIBRARY = target/staticlib/libhost.a
 LISTING = target/bin/listing
