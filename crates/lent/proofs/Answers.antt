@@ -18,14 +18,14 @@ use Rattle.edits.proofs.Edited.Laws as E′
 use Rattle.lent.specs.declared.Answered.{Answered}
 use Rattle.lent.proofs.Answered as T
 use Rattle.lent.proofs.Answered.Laws as T′
-use Rattle.lent.proofs.Lent.{Entry}
+use Rattle.lent.proofs.Lent.{Storing}
 use Rattle.lent.proofs.Others.{Kinds}
 
 abbrev answered : Edited → Answered
 answered d = record { answer = d .answer; length = d .length }
 
 module _ (n : ℕ) (others : List (Slot (suc n))) (kinds : Kinds others) where
-  abbrev pub answering : Entry
+  abbrev pub answering : Storing
   answering = record {
     n = n;
     others = others;
@@ -41,7 +41,7 @@ module _ (n : ℕ) (others : List (Slot (suc n))) (kinds : Kinds others) where
     is-result = λ d fields. fields .1 .0;
   }
 
-  abbrev pub editing : Entry
+  abbrev pub editing : Storing
   editing = record {
     n = n;
     others = others;

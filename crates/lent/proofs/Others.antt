@@ -1,12 +1,12 @@
--- The parameters of an entry beside the record: plain numbers and slices of bytes. Each goes on to the
--- operation for good, at its own lifetime, share and ghost name, and nothing has to come back: what the
--- operation says of its last value is what the entry says of it. So nothing is copied for the exit, and
--- no number is made anew there.
+-- The parameters of an entry beside the record: numbers, slices of bytes, and a number behind a `&mut`. Each
+-- goes on to the operation for good, at its own lifetime, share and ghost name, and nothing has to come back:
+-- what the operation says of its last value is what the entry says of it. So nothing is copied for the exit,
+-- and no number is made anew there.
 --     rest ss          a signature's parameters but the first
 --     gave-all ss      what is had of each at exit: what its type says of its last value
 --     fit-all, go-all, had-all     what a walk's end asks of that, its law, and that the last values give it
 --     Kind s           a parameter's machine values, that its relation tells them, and that they are of its types
---     number, written, seen        a number, a `&'j mut [u8]` and a `&'j [u8]`
+--     number, written, seen, mut-ref       a number, a `&'j mut [u8]`, a `&'j [u8]` and a `&'j mut R`
 --     Kinds, spells, tell-all, lawful-all      the same for a list of parameters
 --     sized            a slice's machine value is one wherever its length fits
 -- The laws take `Given`. The rest assumes nothing.
@@ -20,12 +20,13 @@ use prog.Wp.{Heap}
 use ghost.Atoms.{Atoms, sem}
 use contract.Lifetimes.{Lfts, Within, lftAt}
 use types.Kit.{Given}
-use denote.RattleType.{Denots, Valss}
+use denote.RattleType.{RattleType, Denots, Valss}
 use denote.Laws.{Is, Ises, Spells, Tells, Tellss, Lawful, Lawfuls}
 use denote.Plain.{UInt, uint-vals, uint-tells, uint-lawful}
 use denote.Builtin.{u8}
 use denote.Exit.{Kept, left}
-use denote.Signature.{Slot, plain, mutSlice, shrSlice, typesAt}
+use denote.Ref.{ptr-vals, mut-tells, mut-lawful}
+use denote.Signature.{Slot, plain, mutRef, mutSlice, shrSlice, typesAt}
 use denote.Slice.{slice-vals, mut-slice-tells, mut-slice-lawful, shr-slice-tells, shr-slice-lawful}
 use denote.Triple.End.{Kepts, Fins, lastsOf}
 use denote.Triple.Walked.{Stay, Stays, fitsOf, hasOf, AllGo}
@@ -63,6 +64,13 @@ module _ {n : ℕ} where
     vals = λ κs. slice-vals;
     tells = λ κs. shr-slice-tells (named j) (lftAt n j ok κs) u8;
     lawful = λ 𝓤 H A W κs. shr-slice-lawful 𝓤 H A W (named j) (lftAt n j ok κs) u8;
+  }
+
+  abbrev pub mut-ref : (j : ℕ) (ok : Within n j) (R : RattleType) → Kind {n = n} (mutRef j ok (λ _. R))
+  mut-ref j ok R = record {
+    vals = λ κs. ptr-vals;
+    tells = λ κs. mut-tells (named j) (lftAt n j ok κs) R;
+    lawful = λ 𝓤 H A W κs. mut-lawful 𝓤 H A W (named j) (lftAt n j ok κs) R;
   }
 
   abbrev pub Kinds : List (Slot n) → Type 2
