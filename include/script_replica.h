@@ -1,8 +1,8 @@
 /*
  * The script replica: one host's copy of the event script.
  *
- * A host keeps three things: a record of 67 bytes, a table of 39,936 bytes, and the patches of its own
- * edits, so that it can send them again. It lends record and table to each call. A call does all that it
+ * A host keeps three things: a record of 67 bytes, a table of 39,936 bytes, and patches, those of its own
+ * edits at least, so that it can send them again. It lends record and table to each call. A call does all that it
  * says or nothing: where it refuses, every byte lent is as it was and every number given is 0.
  *
  * Each function is proved, in the language it is written in, to give exactly one answer and one content of
@@ -92,7 +92,7 @@ enum {
 
 /*
  * Starts a replica: sets the own site, and zeroes rows in use, counts and table, whatever stood there. No two
- * hosts of an exercise have the same site, and a host that has made a patch is not started again in it.
+ * hosts of an exercise have the same site, and a host is started once in it.
  * Refuses with 14, then with 1 where record or table has a wrong length.
  */
 uint32_t replica_start(uint8_t *record, size_t record_len, uint8_t *table, size_t table_len, uint32_t site);
@@ -101,7 +101,7 @@ uint32_t replica_start(uint8_t *record, size_t record_len, uint8_t *table, size_
  * Inserts a line with this text before a row, from 0; a row equal to the number in use puts it last. The draw is
  * any number and picks among the free places between the neighbours, from the lowest. Best is a random one, and
  * for a line put last a small one, 0 to 63, say: each such line takes its part of the places that are left, and
- * draws over all numbers use them up (answer 12) after little more than a hundred. Done, the patch to send to every
+ * draws over all numbers use them up (answer 12) after about a hundred. Done, the patch to send to every
  * other host stands at the front of `patch`, its length is in `written`, and the bytes behind it are as they
  * were.
  * Refuses with 1, 10, 8, 9, 7, 11, 12, 13, in this order.
@@ -136,10 +136,11 @@ uint32_t replica_row_text(const uint8_t *record, size_t record_len, const uint8_
                           size_t row, size_t *start, size_t *len);
 
 /*
- * Compares two sets of sixteen counts of 64 bytes, as they stand in records from byte 3 on. For each site, the
+ * Compares two sets of sixteen counts, 64 bytes each, as they stand in records from byte 3 on. For each site, the
  * first at byte 0, the second at byte 9 and so on, it writes which side has received more of its
  * patches (0 neither, 1 the first, 2 the second), and the first and the last number that the other side
- * lacks, or two zeros. Refuses with 1 where a length is wrong or a count is above 1,000,000.
+ * lacks, or two zeros. Refuses with 1 where a length is wrong or a count is above 1,000,000; the bytes of the
+ * result are then as they were.
  */
 uint32_t replica_compare(const uint8_t *first, size_t first_len, const uint8_t *second, size_t second_len,
                          uint8_t *result, size_t result_len);

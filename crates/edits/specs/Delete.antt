@@ -10,8 +10,8 @@ use Rattle.record.specs.declared.Replica.{Replica}
 use Rattle.script.specs.Lines.{Line, decodeRow, rowAt}
 use Rattle.format.specs.declared.Edit.the-variants.{Delete}
 use Rattle.format.specs.Answers.{firstOf}
-use Rattle.replica.specs.Grounds.{unsound, short, spent}
-use Rattle.edits.specs.Own.{OwnOutcome, untouched, ownPatch, ownEdit}
+use Rattle.replica.specs.Grounds.{unsound}
+use Rattle.edits.specs.Own.{OwnOutcome, untouched, short, spent, ownPatch, ownEdit}
 
 -- "Delete: 1, 10, 8, 11." 8: "no such row", "Rows count from 0"
 unfoldable pub deleteChecks : Replica → List ℕ → ℕ → List ℕ → List (Bool × ℕ)

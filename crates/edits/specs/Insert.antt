@@ -16,13 +16,14 @@ use Rattle.script.specs.Find.{findIn}
 use Rattle.format.specs.declared.Edit.the-variants.{Insert}
 use Rattle.format.specs.Answers.{firstOf}
 use Rattle.effect.specs.Effect.{isRow}
-use Rattle.replica.specs.Grounds.{unsound, short, full, spent}
-use Rattle.edits.specs.Own.{OwnOutcome, untouched, ownPatch, ownEdit}
+use Rattle.replica.specs.Grounds.{unsound, full}
+use Rattle.edits.specs.Own.{OwnOutcome, untouched, short, spent, ownPatch, ownEdit}
 
--- "between neighbours P and Q [..], either of which may be an end": those of a place before a row
+-- the positions of the lines, in their order
 abbrev pub positionsOf : List Line → List (List Identifier)
 positionsOf lines = map (λ (l : Line). l .position) lines
 
+-- "between neighbours P and Q [..], either of which may be an end": those of a place before a row
 abbrev pub leftOf : List Line → ℕ → List Identifier
 leftOf lines row = getD (begin ∷ positionsOf lines) row begin
 

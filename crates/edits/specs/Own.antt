@@ -1,14 +1,17 @@
--- Own edits (01, 'Answer numbers'): the patch that one makes, and what insert and delete alike leave.
+-- Own edits (01, 'Answer numbers'): what insert and delete alike refuse, the patch that one makes, and what
+-- it leaves.
 -- Assumes nothing.
 use Prim.Native.Nat.{ℕ, suc}
+use mathlib.Core.Bool.{Bool}
 use mathlib.Core.List.{List}
+use lib.Dec.{eqb, ltb}
 use lib.ListN.{length}
 use Rattle.position.specs.declared.Position.{Position}
 use Rattle.rows.specs.Rows.{written}
 use Rattle.record.specs.declared.Replica.{Replica}
 use Rattle.format.specs.declared.Edit.{Edit}
 use Rattle.format.specs.declared.Patch.{Patch}
-use Rattle.format.specs.Patches.{patchBytes}
+use Rattle.format.specs.Patches.{mostSize, patchBytes}
 use Rattle.effect.specs.Held.{Held, heldIn, recordHolding, tableHolding}
 use Rattle.effect.specs.Effect.{effect}
 use Rattle.replica.specs.Grounds.{ownCount}
@@ -24,6 +27,14 @@ pub record OwnOutcome : Type 0 where
 -- refused: "the record and every lent buffer unchanged, and 0 for each number that a done call would give"
 abbrev pub untouched : Replica → List ℕ → List ℕ → ℕ → OwnOutcome
 untouched r table buffer n = record { answer = n; replica = r; table = table; length = 0; buffer = buffer }
+
+-- grounds of both: 10, "patch buffer under 161 bytes, whether or not the patch would fit"
+abbrev pub short : List ℕ → Bool
+short buffer = ltb (length buffer) mostSize
+
+-- 11: "own count is 1,000,000"
+abbrev pub spent : Replica → Bool
+spent r = eqb (ownCount r) 1000000
 
 -- the patch: its author is the own site, its number the next one, and Before "is what the author had
 -- received"

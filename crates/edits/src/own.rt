@@ -57,6 +57,7 @@ pub fn own_edit(
     requires { ⌜ Ready r (now table) p (now text) found × ((mostSize ≤ length (now buffer)) × (doneAnswer p (p .edit) (decodeTable (r .rows) (now table)) ≡ 0)) ⌝ }
     ensures { λ e. ⌜ record { answer = e .answer; replica = e .replica; table = now (table .exit); length = e .length; buffer = now (buffer .exit) } ≡ ownEdit r (now (table .entry)) (now (buffer .entry)) p (now (text .entry)) ⌝ }
 {
+    // its answer is 0: there is room, and an own patch is well-formed
     let written = write(p, text, buffer);
     let done = apply(r, table, p, text, found);
     let next = done.replica;

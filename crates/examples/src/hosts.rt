@@ -1,5 +1,5 @@
-// A host keeps its record in a local and lends it to a call: once for each entry of `lent`. A function
-// that holds a reference to a struct is proved by a walk by hand, so the lending stands here, and the
+// A host keeps its record in a local and lends it to a call: once for each entry of `lent` that changes it. A
+// function that holds a reference to a struct is proved by a walk by hand, so the lending stands here, and the
 // examples take the record by value and give it on.
 use edits::Edited;
 use effect::Done;

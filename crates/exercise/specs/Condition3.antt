@@ -68,7 +68,7 @@ pub record Condition3 (w : World) : Type 0 where
   pub one-patch : (a n : ℕ) (b c : List ℕ) → List·Memᴰ b (w .made) → List·Memᴰ c (w .made) → Is a n b → Is a n c → b ≡ c
   -- "Each script is then exactly the lines whose insert it has received and whose delete it hasn't, in position order."
   pub script : (s : Site) → Script (hostOf w s .received) (linesAt (hostOf w s))
-  -- "for each of the 16 sites a count"
+  -- "patches 1 to that count of that site have been received"
   pub counted : (s : Site) → Counted (hostOf w s)
   -- "Two replicas with equal received-counts hold equal tables"
   pub together : (s t : Site) → countsAt (hostOf w s) ≡ countsAt (hostOf w t) → hostOf w s .table ≡ hostOf w t .table

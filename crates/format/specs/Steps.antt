@@ -35,7 +35,7 @@ pub record FieldsFit (p : Patch) (text : List ℕ) : Type 0 where
   pub place : PlaceFits (p .place)
   pub line : LineFits (p .edit) text
 
--- the fields against each other
+-- the fields against each other, and what is left of the place by itself
 pub record Agrees (p : Patch) : Type 0 where
   pub own-entry : countOf (p .before) (p .author) ≡ p .number - 1
   pub first : getD (idsOf (p .place)) 0 pad .integer ≤ 65534

@@ -1,7 +1,7 @@
 -- The calls of a host program, said of bytes (01, 'The record and the table': "Across the C boundary it is
 -- 67 bytes"): each is the operation's own definition on the record that the bytes are, and what the
 -- operation leaves is written back. Bytes of another length are no record: the operation is given that
--- of no host, which is never sound, and answers 1; and they stay as they were.
+-- of no host, which is never sound, and answers 1 (start: 14 first); and they stay as they were.
 -- Assumes nothing.
 use Prim.Native.Nat.{ℕ}
 use mathlib.Core.Bool.{cond, not, _&&_}

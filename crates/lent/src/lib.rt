@@ -2,7 +2,8 @@
 // lends it to each call, which brings it up to date").
 //
 // Rests on `replica` and `edits`, whose operations take the record by value: each entry here copies the
-// record, calls the operation, stores the record that comes back, and returns the answer with its numbers.
+// record, calls the operation, stores the record that comes back (reading gives none), and returns the
+// answer with its numbers.
 // What an entry gives is the operation's own definition, with the record behind the reference at exit.
 //
 // `replica::compare` has no entry: it takes two sets of counts and no record.

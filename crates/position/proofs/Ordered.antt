@@ -1,5 +1,5 @@
 -- The laws of the order of positions: it is a strict total order, `Same` only of equal lists, and a
--- position that runs out first is the smaller. Whoever uses the order uses these and not its text.
+-- position that runs out first is the smaller.
 -- Assumes nothing.
 use Prim.Native.Nat.{ℕ, _<_, _≤_}
 use mathlib.Core.Path.{_≡_, refl, sym, ap, _∙_, subst}

@@ -53,7 +53,8 @@ fn x_of(lo: u32, c: u32, draw: u32) -> u16
     (lo + draw % c) as u16
 }
 
-// The choice of what stands in front, numbered in the order of trying: P's first k identifiers.
+// The choice of what stands in front, numbered in the order of trying: P's first k identifiers. Which fronts
+// are tried is decided here alone, so both neighbours are at hand, though Q is not looked at.
 fn front_at(p: Position, q: Position, k: usize) -> Position
     requires { ⌜ k < 8 ⌝ }
     ensures { λ r. ⌜ r ≡ positionOf (frontAt (idsOf p) (idsOf q) k) ⌝ }

@@ -29,7 +29,7 @@ use Rattle.format.proofs.Sizes.{head-length, entry-length, entries-most}
 use Rattle.reader.proofs.Counts.{Rising, before-rises, entered-entries}
 use Rattle.reader.proofs.Repeated.Behind.{none, next}
 use Rattle.reader.proofs.Sections.{text-filled}
-use Rattle.reader.specs.Read.{rowsIn, behind, beforeIn, placeIn, lineIn, decodeEntry, countsIn, editIn, textIn, patchIn}
+use Rattle.reader.specs.Read.{rowsIn, afterSection, beforeIn, placeIn, lineIn, decodeEntry, countsIn, editIn, textIn, patchIn}
 
 -- A section: its count byte, its bytes, its rows, and what is behind it.
 
@@ -43,7 +43,7 @@ count-behind n bytes rest =
 
 module _ {ℓ} {A : Type ℓ} (encode : A → List ℕ) (width : ℕ) (each : (x : A) → length (encode x) ≡ width) where
   section-behind : (xs : List A) (rest : List ℕ) → length xs < 256
-      → behind width (section (length xs) (flat encode xs) ++ rest) ≡ rest
+      → afterSection width (section (length xs) (flat encode xs) ++ rest) ≡ rest
   section-behind xs rest h =
       rw (count-first (length xs) (flat encode xs) rest h)
       (sym (drop-drop (length xs * width) 1 (section (length xs) (flat encode xs) ++ rest))
@@ -169,11 +169,11 @@ module _ (p : Patch) (text rest : List ℕ) (fits : FieldsFit p text) where
 
   place-there : placeIn whole ≡ place
   unfolding beforeBytes
-  place-there = ap (behind 5) before-there ∙ section-behind encodeEntry 5 entry-length entries place few-entries
+  place-there = ap (afterSection 5) before-there ∙ section-behind encodeEntry 5 entry-length entries place few-entries
 
   line-there : lineIn whole ≡ line
   unfolding placeBytes
-  line-there = ap (behind 3) place-there ∙ section-behind encodeIdentifier 3 identifier-length ids line few-ids
+  line-there = ap (afterSection 3) place-there ∙ section-behind encodeIdentifier 3 identifier-length ids line few-ids
 
   entries-there : rowsIn decodeEntry 5 (beforeIn whole) ≡ entries
   unfolding beforeBytes

@@ -29,8 +29,8 @@ use Rattle.reader.specs.declared.Reading.{Reading}
 abbrev pub rowsIn {ℓ} : {A : Type ℓ} → (List ℕ → A) → ℕ → List ℕ → List A
 rowsIn decode width s = rowsOf decode width (getD s 0 0) (drop 1 s)
 
-abbrev pub behind : ℕ → List ℕ → List ℕ
-behind width s = drop (1 + getD s 0 0 * width) s
+abbrev pub afterSection : ℕ → List ℕ → List ℕ
+afterSection width s = drop (1 + getD s 0 0 * width) s
 
 -- The sections, each found behind the one before: Before, place, line.
 
@@ -38,10 +38,10 @@ abbrev pub beforeIn : List ℕ → List ℕ
 beforeIn s = drop headSize s
 
 abbrev pub placeIn : List ℕ → List ℕ
-placeIn s = behind 5 (beforeIn s)
+placeIn s = afterSection 5 (beforeIn s)
 
 abbrev pub lineIn : List ℕ → List ℕ
-lineIn s = behind 3 (placeIn s)
+lineIn s = afterSection 3 (placeIn s)
 
 unfoldable pub decodeEntry : List ℕ → Entry
 decodeEntry s = record { site = getD s 0 0; count = numAt 4 s 1 }

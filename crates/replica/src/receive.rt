@@ -64,7 +64,7 @@ pub fn receive(r: Replica, table: &mut [u8], bytes: &[u8]) -> Done
 }
 
 // The record as it was.
-pub fn refused(r: Replica, answer: u32) -> Done
+pub(crate) fn refused(r: Replica, answer: u32) -> Done
     ensures { λ d. ⌜ d ≡ record { replica = r; answer = answer } ⌝ }
 {
     Done { replica: r, answer }

@@ -1,6 +1,6 @@
-// Whether record and table are sound (01, 'The record and the table'). Every call of the replica pays
-// for this, so it is one pass over the table, and what it looks at is straight-line work that the
-// compiler turns into vectors.
+// Whether record and table are sound (01, 'The record and the table'). Every edit, every patch received and
+// every row read pays for this, so it is one pass over the table, and what it looks at is straight-line work
+// that the compiler turns into vectors.
 //
 // Rests on `script`, whose specs/Sound.antt is what `sound` decides, on `record` for the counts, on `position`
 // for what an identifier may be, and on `rows` for numbers and bytes that are zero. Two facts make it fast, and
