@@ -1,6 +1,6 @@
 // The operations of one replica that are not its own edits (01, 'What is built'): start, receive a patch,
 // read a row's text, compare two sets of counts. `edits` has insert before a row and delete a row. The
-// caller keeps record and table and lends them to each call.
+// caller keeps record and table, and hands the one and lends the other to each call.
 //
 // Rests on `sound` for whether record and table are sound, on `script` for the table, on `reader` for a
 // patch's bytes, and on `effect` for what an edit does. Every operation takes any record, bytes and
