@@ -2,6 +2,8 @@
 //
 // Rests on `sound`, `script`, `record` and `rows`. Each is proved safe for every input; what it does is the
 // contract of the function that it calls.
+#![tactic(auto)]
+
 use script::table::{put_row, take_row};
 use script::{ROW, ROWS, TABLE};
 

@@ -8,6 +8,8 @@
 // replica which receives the patch is left with the same rests on `replica` (proofs/OwnDone.antt).
 //
 // The record comes in by value and comes back in the result; `lent` has the operations over a lent one.
+#![tactic(auto)]
+
 use record::Replica;
 
 pub mod delete;
@@ -15,7 +17,7 @@ pub mod insert;
 mod own;
 
 // The record after an own edit, the answer, and the length of the patch written: 0 where it is refused.
-#[derive(Drop)]
+#[derive(Clone, Copy)]
 pub struct Edited {
     pub replica: Replica,
     pub answer: u32,

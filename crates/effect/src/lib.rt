@@ -4,6 +4,8 @@
 // Rests on `record` for the counts, on `script` for the table and on `format` for what a patch is. It refuses
 // nothing: whoever calls has checked that the replica takes the patch, and has found its place. What is done is
 // specs/Effect.antt, said of the counts and the lines; that it keeps a replica sound is proofs/Keeps.antt.
+#![tactic(auto)]
+
 ghost use Rattle.std.specs.Prelude.{◌≡◌, true, ◌≤◌, ◌<◌};
 ghost use Rattle.record.specs.Records.{count_of};
 ghost use Rattle.script.specs.Lines.{decode_table};
@@ -18,14 +20,14 @@ use script::table::{Found, put_row, take_row};
 use script::{ROW, row};
 
 // The record after a call, and the call's answer.
-#[derive(Drop)]
+#[derive(Clone, Copy)]
 pub struct Done {
     pub replica: Replica,
     pub answer: u32,
 }
 
 // The number of rows after an edit, and its answer.
-#[derive(Drop)]
+#[derive(Clone, Copy)]
 struct Changed {
     rows: u16,
     answer: u32,

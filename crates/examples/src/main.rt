@@ -3,6 +3,8 @@
 // written from the document.
 //
 // Rests on `position` for P1 to P11, on `lent` for the calls, and on `show` to write.
+#![tactic(auto)]
+
 mod calls;
 mod hosts;
 mod positions;

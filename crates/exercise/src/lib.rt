@@ -4,3 +4,5 @@
 // Rests on `host`, whose calls' own definitions are what changes a replica here: specs/World.antt folds them
 // over the bytes of records, tables and patches. What holds after any calls is specs/Condition3.antt, and that
 // it does is `condition_3`, proofs/Concluded.antt. docs/CONVERGENCE.md puts it in words.
+#![tactic(auto)]
+

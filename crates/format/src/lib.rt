@@ -5,6 +5,8 @@
 // identifier's bytes. The bytes are specs/Patches.antt and the rules specs/WellFormed.antt; what a reader of the
 // format has to believe is those two. Reading and writing are the crates `reader` and `writer`. The answer
 // numbers stand here too (`answers`), below everything that answers with one.
+#![tactic(auto)]
+
 use position::Position;
 
 pub mod answers;
@@ -27,14 +29,14 @@ pub const MOST: usize = HEAD
     + (1 + TEXT);
 
 // "one edit: an insert with its text length, or a delete with its line number"
-#[derive(Drop)]
+#[derive(Clone, Copy)]
 pub enum Edit {
     Insert(usize),
     Delete(u32),
 }
 
 // An entry of Before: a site and its count.
-#[derive(Drop)]
+#[derive(Clone, Copy)]
 pub struct Entry {
     pub site: u8,
     pub count: u32,
@@ -42,7 +44,7 @@ pub struct Entry {
 
 // "A patch once read is author, number, Before, place and one edit". Before is sixteen counts, that of
 // site 1 first, and 0 where there is no entry.
-#[derive(Drop)]
+#[derive(Clone, Copy)]
 pub struct Patch {
     pub author: u8,
     pub number: u32,

@@ -9,6 +9,8 @@
 // (its crate's specs/), said of bytes in specs/Calls.antt. A slice is a pointer and then a length for C.
 //
 // A record's bytes are called `state` here: `record` is a word of the proof language.
+#![tactic(auto)]
+
 
 mod lacks;
 

@@ -7,6 +7,8 @@
 // What an entry gives is the operation's own definition, with the record behind the reference at exit.
 //
 // `replica::compare` has no entry: it takes two sets of counts and no record.
+#![tactic(auto)]
+
 ghost use Rattle.std.specs.Prelude.{◌≡◌};
 ghost use Rattle.replica.specs.Start.{start_call};
 ghost use Rattle.replica.specs.Receive.{receive_call};
@@ -17,7 +19,7 @@ ghost use Rattle.edits.specs.Delete.{delete_call};
 use record::Replica;
 
 // The answer of an own edit, and the length of the patch written: 0 where it is refused.
-#[derive(Drop)]
+#[derive(Clone, Copy)]
 pub struct Answered {
     pub answer: u32,
     pub length: usize,

@@ -5,6 +5,8 @@
 // Rests on `replica` for the replica that is fed, on `reader` for where a patch ends, on `script` for what
 // stands in a row, and on `rows` to copy bytes. What is written for every input is one definition,
 // specs/Listing.antt; that it is never longer than LONGEST is proofs/Longest.antt.
+#![tactic(auto)]
+
 
 mod lines;
 mod output;
@@ -34,7 +36,7 @@ pub const LONGEST: usize = 131_072;
 const SITE: u32 = 16;
 
 // The replica in the end, and how many bytes have been put out.
-#[derive(Drop)]
+#[derive(Clone, Copy)]
 struct Fed {
     replica: Replica,
     length: usize,

@@ -3,6 +3,8 @@
 //
 // Rests on `listed`, which says what is written, and on `io` to read and write. It asks for a byte more
 // than is listed, so that an input that is too long is seen to be.
+#![tactic(auto)]
+
 use libc::{STDIN_FILENO, STDOUT_FILENO};
 use listed::{LONGEST, MOST, list};
 

@@ -6,6 +6,8 @@
 // file `stdout`, which is made from the document.
 //
 // Rests on `reader`, `writer`, `format`, `record` and `position`, and on `show` and `io`.
+#![tactic(auto)]
+
 mod feed;
 
 use format::{Edit, MOST, Patch, TEXT};

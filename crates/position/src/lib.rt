@@ -5,6 +5,8 @@
 // one answer that its definition in specs/ gives; none refuses or traps. A position's value is read by
 // its `used` first identifiers, at most 8; every value that this crate hands out has pads behind them,
 // so that each list of identifiers has one value (specs/Positions.antt).
+#![tactic(auto)]
+
 pub mod order;
 pub mod place;
 
@@ -13,13 +15,13 @@ ghost use Rattle.position.specs.Positions.{identifier, begin, end, ids_of, posit
 ghost use Rattle.position.specs.Rule.{followed_by};
 ghost use Rattle.position.specs.Place.{Front};
 
-#[derive(Drop)]
+#[derive(Clone, Copy)]
 pub struct Identifier {
     pub integer: u16,
     pub site: u8,
 }
 
-#[derive(Drop)]
+#[derive(Clone, Copy)]
 pub struct Position {
     pub used: usize,
     pub ids: [Identifier; Position::LIMIT],

@@ -7,7 +7,7 @@ ghost use Rattle.position.specs.Order.{number_order, identifier_order, order_of}
 use crate::{Identifier, Position};
 
 // How the first of two things stands to the second.
-#[derive(Drop)]
+#[derive(Clone, Copy)]
 pub enum Order {
     Below,
     Same,

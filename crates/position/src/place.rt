@@ -14,7 +14,7 @@ use crate::order::{Order, compare};
 
 // The place made; where there is none, no identifier at all. (A struct and no enum: an enum that
 // holds an array is not covered.)
-#[derive(Drop)]
+#[derive(Clone, Copy)]
 pub struct Placed {
     pub made: bool,
     pub place: Position,

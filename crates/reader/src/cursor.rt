@@ -19,7 +19,7 @@ use record::SITES;
 use rows::moves::copy_front;
 use rows::numbers::{number_2, number_4};
 
-#[derive(Drop)]
+#[derive(Clone, Copy)]
 pub struct Cursor {
     pub at: usize,
     pub stopped: bool,
@@ -27,19 +27,19 @@ pub struct Cursor {
 
 // What was read, and the spot behind it: of a field ..
 
-#[derive(Drop)]
+#[derive(Clone, Copy)]
 pub struct ByteField {
     pub value: u8,
     pub next: Cursor,
 }
 
-#[derive(Drop)]
+#[derive(Clone, Copy)]
 pub struct NumberField {
     pub value: u32,
     pub next: Cursor,
 }
 
-#[derive(Drop)]
+#[derive(Clone, Copy)]
 pub struct IdentifierField {
     pub value: Identifier,
     pub next: Cursor,
@@ -47,45 +47,45 @@ pub struct IdentifierField {
 
 // .. and of what is made of fields.
 
-#[derive(Drop)]
+#[derive(Clone, Copy)]
 pub struct EntryField {
     pub value: Entry,
     pub next: Cursor,
 }
 
-#[derive(Drop)]
+#[derive(Clone, Copy)]
 pub struct Head {
     pub kind: u8,
     pub author: u8,
     pub number: u32,
 }
 
-#[derive(Drop)]
+#[derive(Clone, Copy)]
 pub struct HeadField {
     pub value: Head,
     pub next: Cursor,
 }
 
-#[derive(Drop)]
+#[derive(Clone, Copy)]
 pub struct BeforeField {
     pub value: [u32; SITES],
     pub next: Cursor,
 }
 
-#[derive(Drop)]
+#[derive(Clone, Copy)]
 pub struct PlaceField {
     pub value: Position,
     pub next: Cursor,
 }
 
 // The last section: the edit, and the text beside it.
-#[derive(Drop)]
+#[derive(Clone, Copy)]
 pub struct Line {
     pub edit: Edit,
     pub text: [u8; TEXT],
 }
 
-#[derive(Drop)]
+#[derive(Clone, Copy)]
 pub struct LineField {
     pub value: Line,
     pub next: Cursor,

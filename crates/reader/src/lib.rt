@@ -3,6 +3,8 @@
 // Rests on `format`, whose specs are what a patch is, and on `rows` for numbers. Takes any bytes; what is
 // not well-formed is refused. A cursor goes over the fields, each tested as it is read; what is left is to
 // hold the fields against each other.
+#![tactic(auto)]
+
 mod cursor;
 
 ghost use Rattle.std.specs.Prelude.{◌≡◌};
@@ -15,7 +17,7 @@ use position::{Identifier, Position};
 use record::SITES;
 
 // A patch, the 48 bytes of text beside it, and how many bytes it used: 0 where none was read.
-#[derive(Drop)]
+#[derive(Clone, Copy)]
 pub struct Reading {
     pub patch: Patch,
     pub text: [u8; TEXT],

@@ -5,6 +5,8 @@
 // Rests on `rows` for numbers in bytes, and on `position` for a law by which facts are decided. What the bytes
 // mean and when a record is sound by itself is specs/Records.antt; that reading and writing undo each other is
 // proofs/RecordBack.antt.
+#![tactic(auto)]
+
 ghost use Rattle.std.specs.Prelude.{◌≡◌, true, ◌↔◌, ◌≤◌, length};
 ghost use Rattle.rows.specs.Rows.{flat, written};
 ghost use Rattle.rows.specs.Numbers.{bytes_of};
@@ -23,7 +25,7 @@ pub const SITES: usize = 16;
 pub const LAST_NUMBER: u32 = 1_000_000;
 
 // "The record holds the own site, the number of rows, and for each of the 16 sites a count".
-#[derive(Drop)]
+#[derive(Clone, Copy)]
 pub struct Replica {
     pub site: u8,
     pub rows: u16,

@@ -7,7 +7,7 @@ use record::{SITES, counts_fit};
 
 // What one side lacks of a site's patches: which side has more (0 none, 1 first, 2 second), and the
 // first and last number that the other side lacks, or two zeros.
-#[derive(Drop)]
+#[derive(Clone, Copy)]
 pub struct Lack {
     pub more: u8,
     pub first: u32,
@@ -15,7 +15,7 @@ pub struct Lack {
 }
 
 // The answer, and for each site what one side lacks.
-#[derive(Drop)]
+#[derive(Clone, Copy)]
 pub struct Compared {
     pub answer: u32,
     pub sites: [Lack; SITES],

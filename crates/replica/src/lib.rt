@@ -8,6 +8,8 @@
 // answer, and all that it leaves. A refusal leaves all as it was.
 //
 // The record comes in by value and comes back in the result; `lent` has the operations over a lent one.
+#![tactic(auto)]
+
 pub mod compare;
 pub mod read;
 pub mod receive;

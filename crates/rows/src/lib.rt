@@ -5,6 +5,8 @@
 // Rests on nothing. `numbers` reads and writes a number at a place that is there; `moves` puts bytes
 // in and takes bytes out, for every slice and every place. What they mean is specs/Numbers.antt and
 // specs/Rows.antt; that rows then stand as the list of their elements does is proofs/Moved.antt.
+#![tactic(auto)]
+
 
 pub mod moves;
 pub mod numbers;

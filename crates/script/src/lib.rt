@@ -5,6 +5,8 @@
 // the counts that a sound line is held to. What a table means is the list of its lines (specs/Lines.antt);
 // when record and table are sound is specs/Sound.antt, and that a sound table is the encoding of its lines is
 // proofs/Tables.antt. Deciding soundness is the crate `sound`.
+#![tactic(auto)]
+
 
 pub mod row;
 pub mod table;

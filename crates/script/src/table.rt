@@ -14,7 +14,7 @@ use record::Replica;
 use rows::moves::{put_in, take_out};
 
 // The row that has a position, or the row where it would stand.
-#[derive(Drop)]
+#[derive(Clone, Copy)]
 pub enum Found {
     Row(usize),
     Gap(usize),

@@ -2,6 +2,8 @@
 // counts, and positions as 01's listing has them.
 //
 // Rests on `position`, and on `io` to write.
+#![tactic(auto)]
+
 use libc::STDOUT_FILENO;
 use position::{Identifier, Position};
 

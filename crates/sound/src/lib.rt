@@ -7,6 +7,8 @@
 // proofs/ has them as laws. Unused identifiers are zero and the last one in use is not the pad, so positions
 // stand in the order of their 24 bytes: three words are compared, and carried on to the next row. And the faults
 // of a row's identifiers, and of its text, are or-ed together and tested once.
+#![tactic(auto)]
+
 ghost use Rattle.std.specs.Prelude.{◌≡◌, true, ◌↔◌};
 ghost use Rattle.record.specs.Records.{SoundRecord};
 ghost use Rattle.script.specs.Sound.{Sound};

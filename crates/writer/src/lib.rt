@@ -3,6 +3,8 @@
 // Rests on `format`, whose specs are what a patch is, and on `rows` for numbers. Takes any patch, text and
 // buffer; what no bytes would read as is refused. That reading and writing undo each other, which is the
 // only part that rests on `reader`, is proofs/RoundTrip.antt.
+#![tactic(auto)]
+
 ghost use Rattle.std.specs.Prelude.{◌≡◌, ◌+◌, ◌≤◌, length};
 ghost use Rattle.position.specs.Positions.{ids_of};
 ghost use Rattle.rows.specs.Rows.{written};
@@ -19,7 +21,7 @@ use rows::moves::copy_front;
 use rows::numbers::{put_1, put_2, put_4};
 
 // The answer, and how many bytes were written: 0 where it is refused.
-#[derive(Drop)]
+#[derive(Clone, Copy)]
 pub struct Written {
     pub answer: u32,
     pub length: usize,
