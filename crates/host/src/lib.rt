@@ -122,7 +122,7 @@ pub extern "C" fn replica_row_text(
 // first and last number that the other side lacks.
 #[unsafe(no_mangle)]
 pub extern "C" fn replica_compare(first: &[u8], second: &[u8], res: &mut [u8]) -> u32
-    ensures* { λ n. ⌜ record { answer = n; result = res.new } ≡ compare_bytes first.now second.now res.old ⌝ }
+    ensures { record { answer = result; result = res.new } ≡ compare_bytes first.now second.now res.old }
 {
     if first.len() != COUNTS {
         return UNSOUND;

@@ -126,7 +126,7 @@ none_read = halts (λ started. absurd (no_answer true started refl))
 
 module _ {A : Type 0} {E : Elements A} {Held : List A → Type 0} {s : List ℕ} where
   -- before the first turn, behind anything that was read
-  pub first_turn : {B : Type 0} {encodeB : B → List ℕ} {Fits : B → Type 0} {c start : Cursor} {v : B} → Held []
+  pub first_turn : {B : Type 0} {encodeB : B → List ℕ} {Fits : B → Type 0} {c : Cursor} {v : B} {start : Cursor} → Held []
       → Reads encodeB Fits s c v start → Turn E Held s start 0 0 start
   unfolding flat last_mark
   first_turn {encodeB = encodeB} {c = c} {v = v} held (there started fits h) =
@@ -140,7 +140,7 @@ module _ {A : Type 0} {E : Elements A} {Held : List A → Type 0} {s : List ℕ}
   turn_started (read behind stands held) on = refl
 
   -- one turn more
-  pub turn_more : {Held' : List A → Type 0} {start c end : Cursor} {i last : ℕ} {x : A}
+  pub turn_more : {Held' : List A → Type 0} {start c : Cursor} {i last : ℕ} {x : A} {end : Cursor}
       → ((xs : List A) → length xs ≡ i → Held xs → Held' (xs ++ (x ∷ [])))
       → Turn E Held s start i last c → Reads E.encode (E.After last) s c x end → end.stopped ≡ false
       → Turn E Held' s start (i + 1) (E.mark x) end
@@ -158,7 +158,7 @@ module _ {A : Type 0} {E : Elements A} {Held : List A → Type 0} {s : List ℕ}
   turn_more keep (read behind stands held) (halts nothing) on = absurd (no_answer true on refl)
 
   -- it stops before n elements are read
-  pub turn_stops : {start c end : Cursor} {i last n : ℕ} {x : A} → i < n → Turn E Held s start i last c
+  pub turn_stops : {start c : Cursor} {i last n : ℕ} {x : A} {end : Cursor} → i < n → Turn E Held s start i last c
       → Reads E.encode (E.After last) s c x end → end.stopped ≡ true → Listed E Held s start n end
   turn_stops less (idle held) (there started fits h) stopped = absurd (no_answer false refl stopped)
   turn_stops less (idle held) (halts nothing) stopped = ([], held, none_read)

@@ -6,7 +6,8 @@
 -- Assumes nothing.
 use Rattle.std.specs.Prelude.{ℕ, ◌+◌, ◌-◌, ◌*◌, cond, eqb, length, take, drop, get_or, set, replicate}
 use Rattle.std.proofs.Math.Decide.{ℕ_discrete}
-use Rattle.std.proofs.Math.Logic.{ite, Dec·and}
+use Rattle.std.proofs.Math.Logic.{ite}
+use Rattle.std.proofs.Math.Logic.Dec
 use mathlib.Core.List.{List, [], ◌∷◌, List-discrete}
 use Rattle.position.specs.Positions.{position_of}
 use Rattle.rows.specs.Numbers.{num_at}
@@ -82,7 +83,7 @@ abbrev pub FirstIs : List ℕ → Patch → List ℕ → Type 0
 FirstIs s p text = WellFormed p text × Stands (patch_bytes p text) s
 
 abbrev pub first_is? : (s : List ℕ) (p : Patch) (text : List ℕ) → Dec (FirstIs s p text)
-first_is? s p text = Dec·and (well_formed? p text) (List-discrete ℕ_discrete (take (length (patch_bytes p text)) s) (patch_bytes p text))
+first_is? s p text = Dec.and (well_formed? p text) (List-discrete ℕ_discrete (take (length (patch_bytes p text)) s) (patch_bytes p text))
 
 -- what reading p comes to
 abbrev pub reading_of : Patch → List ℕ → Reading

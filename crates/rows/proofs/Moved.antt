@@ -25,11 +25,14 @@ module _ {ℓ} {A : Type ℓ} where
   insert_before (suc k) x (y ∷ ys) zero d b h = refl
   insert_before (suc k) x (y ∷ ys) (suc i) d b h =
       insert_before k x ys i d (le_of_suc-le-suc b) (le_of_suc-le-suc h)
+  insert_before zero x xs i d b h = elim b [ ]
+  insert_before (suc k) x [] i d b h = elim h [ ]
 
   pub insert_here : (k : ℕ) (x : A) (xs : List A) (d : A) → k ≤ length xs → get_or (insert_at k x xs) k d ≡ x
   unfolding insert_at
   insert_here zero x xs d h = refl
   insert_here (suc k) x (y ∷ ys) d h = insert_here k x ys d (le_of_suc-le-suc h)
+  insert_here (suc k) x [] d h = elim h [ ]
 
   pub insert_after : (k : ℕ) (x : A) (xs : List A) (i : ℕ) (d : A) → k ≤ i → k ≤ length xs
       → get_or (insert_at k x xs) (suc i) d ≡ get_or xs i d
@@ -37,6 +40,8 @@ module _ {ℓ} {A : Type ℓ} where
   insert_after zero x xs i d b h = refl
   insert_after (suc k) x (y ∷ ys) (suc i) d b h =
       insert_after k x ys i d (le_of_suc-le-suc b) (le_of_suc-le-suc h)
+  insert_after (suc k) x [] i d b h = elim h [ ]
+  insert_after (suc k) x (y ∷ ys) zero d b h = elim b [ ]
 
   pub remove_length : (k : ℕ) (xs : List A) → k < length xs → length (remove_at k xs) ≡ length xs - 1
   unfolding remove_at
@@ -48,6 +53,7 @@ module _ {ℓ} {A : Type ℓ} where
   remove_before (suc k) [] i d b = refl
   remove_before (suc k) (y ∷ ys) zero d b = refl
   remove_before (suc k) (y ∷ ys) (suc i) d b = remove_before k ys i d (le_of_suc-le-suc b)
+  remove_before zero xs i d b = elim b [ ]
 
   pub remove_after : (k : ℕ) (xs : List A) (i : ℕ) (d : A) → k ≤ i
       → get_or (remove_at k xs) i d ≡ get_or xs (suc i) d
@@ -56,6 +62,7 @@ module _ {ℓ} {A : Type ℓ} where
   remove_after zero (y ∷ ys) i d b = refl
   remove_after (suc k) [] i d b = refl
   remove_after (suc k) (y ∷ ys) (suc i) d b = remove_after k ys i d (le_of_suc-le-suc b)
+  remove_after (suc k) (y ∷ ys) zero d b = elim b [ ]
 
 -- The bytes: a move of the front part, bytes put in that push zeros out, and bytes taken out.
 
@@ -158,3 +165,4 @@ module _ {ℓ} {A : Type ℓ} (encode : A → List ℕ) (width : ℕ) (each : (x
       → within (length xs * width) (take_out (k * width) width) (slots_of encode size xs)
       ≡ slots_of encode size (remove_at k xs)
   take_out_lem k (y ∷ ys) h fits = taken_out k (y ∷ ys) y h fits
+  take_out_lem k [] h fits = elim h [ ]

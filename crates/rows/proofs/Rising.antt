@@ -23,6 +23,7 @@ module _ {ℓ κ} {A : Type ℓ} (d : A) where
   insert_each P (suc k) x (y ∷ ys) h new old zero b = old zero (zero-lt-suc (length ys))
   insert_each P (suc k) x (y ∷ ys) h new old (suc i) b =
       insert_each P k x ys (le_of_suc-le-suc h) new (λ j c. old (suc j) (suc-le-suc c)) i (le_of_suc-le-suc b)
+  insert_each P (suc k) x [] h new old i b = elim h [ ]
 
   pub remove_each : (P : A → Type κ) (k : ℕ) (xs : List A) → Each d P xs → Each d P (remove_at k xs)
   unfolding remove_at
@@ -30,6 +31,8 @@ module _ {ℓ κ} {A : Type ℓ} (d : A) where
   remove_each P (suc k) (y ∷ ys) old zero b = old zero (zero-lt-suc (length ys))
   remove_each P (suc k) (y ∷ ys) old (suc i) b =
       remove_each P k ys (λ j c. old (suc j) (suc-le-suc c)) i (le_of_suc-le-suc b)
+  remove_each P zero [] old i b = elim b [ ]
+  remove_each P (suc k) [] old i b = elim b [ ]
 
   module _ (R : A → A → Type κ) where
     -- the new element stands over the one before its place and under the one at it
@@ -46,6 +49,7 @@ module _ {ℓ κ} {A : Type ℓ} (d : A) where
     insert_rising (suc k) x (y ∷ ys) h old over under (suc i) b =
         insert_rising k x ys (le_of_suc-le-suc h) (λ j c. old (suc j) (suc-le-suc c))
         (λ j e. over (suc j) (ap suc e)) (λ c. under (suc-le-suc c)) i (le_of_suc-le-suc b)
+    insert_rising (suc k) x [] h old over under i b = elim h [ ]
 
     pub remove_rising : ((a b c : A) → R a b → R b c → R a c) → (k : ℕ) (xs : List A) → Rising d R xs
         → Rising d R (remove_at k xs)
@@ -60,3 +64,5 @@ module _ {ℓ κ} {A : Type ℓ} (d : A) where
         old zero (suc-le-suc (zero-lt-suc (length zs)))
     remove_rising transitive (suc k) (y ∷ ys) old (suc i) b =
         remove_rising transitive k ys (λ j c. old (suc j) (suc-le-suc c)) i (le_of_suc-le-suc b)
+    remove_rising transitive zero [] old i b = elim b [ ]
+    remove_rising transitive (suc k) [] old i b = elim b [ ]

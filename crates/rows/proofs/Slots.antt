@@ -101,6 +101,7 @@ module _ {ℓ} {A : Type ℓ} (decode : List ℕ → A) (width : ℕ) where
   unfolding rows_of
   rows_at (suc n) zero s d h = rw zero-mul
   rows_at (suc n) (suc i) s d h = rows_at n i (drop width s) d (le_of_suc-le-suc h) ∙ ap decode (row_drop i s)
+  rows_at zero i s d h = elim h [ ]
 
   module _ (encode : A → List ℕ) where
     -- each of the first n rows is written as it was read

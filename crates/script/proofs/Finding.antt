@@ -35,6 +35,8 @@ module _ (p : List Identifier) where
   found_row (suc k) (l ∷ ls) h under same =
       let rest : Under k ls = λ i b. under (suc i) (suc-le-suc b) in
       rw (under zero (zero-lt-suc k), found_row k ls (le_of_suc-le-suc h) rest same)
+  found_row zero [] h under same = elim h [ ]
+  found_row (suc k) [] h under same = elim h [ ]
 
   pub found_gap : (k : ℕ) (lines : List Line) → k ≤ length lines → Under k lines
       → (k < length lines → order_of (place_at lines k) p ≡ Above) → find_in p lines ≡ Gap k
@@ -44,6 +46,7 @@ module _ (p : List Identifier) where
   found_gap (suc k) (l ∷ ls) h under above =
       let rest : Under k ls = λ i b. under (suc i) (suc-le-suc b) in
       rw (under zero (zero-lt-suc k), found_gap k ls (le_of_suc-le-suc h) rest (λ b. above (suc-le-suc b)))
+  found_gap (suc k) [] h under above = elim h [ ]
 
   -- what the answer tells: the row has the position, or the position stands between its neighbours
   pub data Told (lines : List Line) : Found → Type 0 where
@@ -79,6 +82,7 @@ module _ (lines : List Line)
       transitive (place_at lines i) (place_at lines j) (place_at lines (suc j))
       (rising_far i j b (omega arith)) (rising j k))
       (eq-or-lt_of_le (le_of_suc-le-suc h))
+  rising_far i zero h k = elim h [ ]
 
   pub found_same : (p : List Identifier) (k : ℕ) → k < length lines → order_of (place_at lines k) p ≡ Same
       → find_in p lines ≡ Row k

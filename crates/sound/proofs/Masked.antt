@@ -59,6 +59,7 @@ listed f i (suc n) = f i ∷ listed f (suc i) n
 listed_at : (f : ℕ → ℕ) (i n j : ℕ) → j < n → get_or (listed f i n) j 0 ≡ f (i + j)
 listed_at f i (suc n) zero h = ap f (sym (add-zero i))
 listed_at f i (suc n) (suc j) h = listed_at f (suc i) n j (le_of_suc-le-suc h) ∙ ap f (suc-add i j ∙ sym (add-suc i j))
+listed_at f i zero j h = elim h [ ]
 
 -- the mask is its rule, listed: both compute to the same 32 numbers
 start_at : (j : ℕ) → j < 32 → Start j (get_or start_mask j 0)
