@@ -5,16 +5,17 @@ use edits::Edited;
 use format::{MOST, TEXT};
 use record::{Replica, SITES};
 use script::{ROW, ROWS, TABLE};
+use std::io;
 
 // Writes what each case answers.
-pub fn run() {
-    show_texts();
-    show_full();
-    show_struck_by_two();
+pub fn run(rt: &impl Print) -> io::Result<()> {
+    show_texts(rt)?;
+    show_full(rt)?;
+    show_struck_by_two(rt)
 }
 
 // 48 and 49 bytes of text.
-fn show_texts() {
+fn show_texts(rt: &impl Print) -> io::Result<()> {
     let mut table = [0u8; TABLE];
     let mut patch = [0u8; MOST];
     let text = [65u8; TEXT + 1];
@@ -23,14 +24,14 @@ fn show_texts() {
     let most = hosts::insert(r, &mut table, 0, 0, &text[..TEXT], &mut patch);
     let r = most.replica;
     let over = hosts::insert(r, &mut table, 0, 0, &text, &mut patch);
-    show::write(b"texts");
-    show_answer(most.answer);
-    show_answer(over.answer);
-    show::write(b"\n");
+    show::write(rt, b"texts")?;
+    show_answer(rt, most.answer)?;
+    show_answer(rt, over.answer)?;
+    show::write(rt, b"\n")
 }
 
 // 512 rows, insert; then delete, insert.
-fn show_full() {
+fn show_full(rt: &impl Print) -> io::Result<()> {
     let mut table = [0u8; TABLE];
     let mut patch = [0u8; MOST];
     let r = full(&mut table, &mut patch);
@@ -39,11 +40,11 @@ fn show_full() {
     let struck = hosts::delete(r, &mut table, 0, &mut patch);
     let r = struck.replica;
     let put = hosts::insert(r, &mut table, 0, 0, b"", &mut patch);
-    show::write(b"rows");
-    show_answer(refused.answer);
-    show_answer(struck.answer);
-    show_answer(put.answer);
-    show::write(b"\n");
+    show::write(rt, b"rows")?;
+    show_answer(rt, refused.answer)?;
+    show_answer(rt, struck.answer)?;
+    show_answer(rt, put.answer)?;
+    show::write(rt, b"\n")
 }
 
 // A replica of site 1 with all rows in use, each put behind the last.
@@ -65,7 +66,7 @@ fn full(table: &mut [u8], patch: &mut [u8]) -> Replica {
 //
 // Each buffer is a slice from the start: where an array is lent anew for each call, its length is to be
 // shown anew each time.
-fn show_struck_by_two() {
+fn show_struck_by_two(rt: &impl Print) -> io::Result<()> {
     let first = &mut [0u8; TABLE][..];
     let second = &mut [0u8; TABLE][..];
     let third = &mut [0u8; TABLE][..];
@@ -83,15 +84,15 @@ fn show_struck_by_two() {
     let next = hosts::insert(struck_3.replica, third, 0, 0, b"three", later);
     let heard_next = hosts::receive(heard_3.replica, first, front(later, next.length));
     let offered = hosts::receive(struck_2.replica, second, front(line, put.length));
-    show::write(b"struck by two");
-    show_answer(heard_2.answer);
-    show_answer(again.answer);
-    show_answer(heard_3.answer);
-    show_answer(heard_next.answer);
-    show_answer(offered.answer);
-    show::write(b"\n");
-    show::hex(front(first, 2 * ROW));
-    show::write(b"\n");
+    show::write(rt, b"struck by two")?;
+    show_answer(rt, heard_2.answer)?;
+    show_answer(rt, again.answer)?;
+    show_answer(rt, heard_3.answer)?;
+    show_answer(rt, heard_next.answer)?;
+    show_answer(rt, offered.answer)?;
+    show::write(rt, b"\n")?;
+    show::hex(rt, front(first, 2 * ROW))?;
+    show::write(rt, b"\n")
 }
 
 // A site that is started, receives a line and strikes it.
@@ -119,7 +120,7 @@ fn unused() -> Replica {
     }
 }
 
-fn show_answer(answer: u32) {
-    show::write(b" ");
-    show::number(answer as u64);
+fn show_answer(rt: &impl Print, answer: u32) -> io::Result<()> {
+    show::write(rt, b" ")?;
+    show::number(rt, answer as u64)
 }

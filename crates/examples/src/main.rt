@@ -9,7 +9,9 @@ mod calls;
 mod hosts;
 mod positions;
 
-fn main() {
-    positions::run();
-    calls::run();
+use std::io;
+
+fn main(rt: HostRuntime) -> io::Result<()> {
+    positions::run(&rt)?;
+    calls::run(&rt)
 }

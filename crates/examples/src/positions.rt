@@ -7,30 +7,32 @@
 use position::order::{Order, compare};
 use position::place::place;
 use position::{Identifier, Position};
+use std::io;
 
 // Writes what each case answers.
-pub fn run() {
+pub fn run(rt: &impl Print) -> io::Result<()> {
     let p6 = three(id(5, 1), id(1, 6), id(10, 2));
     let q6 = three(id(5, 1), id(2, 1), id(15, 2));
     let q9 = two(id(2, 4), id(1, 3));
-    show_order(b"P1", two(id(2, 4), id(9, 9)), one(id(2, 5)));
-    show_order(b"P2", one(id(2, 4)), two(id(2, 4), id(1, 1)));
-    show_run(b"P3", Position::begin(), Position::end(), 3, 65533);
-    show_run(b"P4", one(id(2, 4)), one(id(10, 5)), 4, 7);
-    show_draw(b"P4", one(id(2, 4)), one(id(10, 5)), 4, 9);
-    show_run(b"P5", one(id(2, 4)), one(id(10, 5)), 5, 7);
-    show_run(b"P6", p6, q6, 7, 0);
-    show_run(b"P7", p6, q6, 1, 0);
-    show_run(b"P8", p6, q6, 6, 65525);
-    show_run(b"P9", one(id(2, 4)), q9, 2, 0);
-    show_run(b"P10", one(id(2, 4)), q9, 5, 65534);
+    show_order(rt, b"P1", two(id(2, 4), id(9, 9)), one(id(2, 5)))?;
+    show_order(rt, b"P2", one(id(2, 4)), two(id(2, 4), id(1, 1)))?;
+    show_run(rt, b"P3", Position::begin(), Position::end(), 3, 65533)?;
+    show_run(rt, b"P4", one(id(2, 4)), one(id(10, 5)), 4, 7)?;
+    show_draw(rt, b"P4", one(id(2, 4)), one(id(10, 5)), 4, 9)?;
+    show_run(rt, b"P5", one(id(2, 4)), one(id(10, 5)), 5, 7)?;
+    show_run(rt, b"P6", p6, q6, 7, 0)?;
+    show_run(rt, b"P7", p6, q6, 1, 0)?;
+    show_run(rt, b"P8", p6, q6, 6, 65525)?;
+    show_run(rt, b"P9", one(id(2, 4)), q9, 2, 0)?;
+    show_run(rt, b"P10", one(id(2, 4)), q9, 5, 65534)?;
     show_draw(
+        rt,
         b"P11",
         eight(id(5, 3), id(65535, 9)),
         two(id(5, 4), id(9, 3)),
         2,
         0,
-    );
+    )
 }
 
 fn id(integer: u16, site: u8) -> Identifier {
@@ -64,39 +66,40 @@ fn eight(a: Identifier, b: Identifier) -> Position {
     Position { used: 8, ids }
 }
 
-fn show_order(name: &[u8], p: Position, q: Position) {
-    show::write(name);
+fn show_order(rt: &impl Print, name: &[u8], p: Position, q: Position) -> io::Result<()> {
+    show::write(rt, name)?;
     let order = compare(p, q);
     match order {
-        Order::Below => show::write(b" below\n"),
-        Order::Same => show::write(b" same\n"),
-        Order::Above => show::write(b" above\n"),
+        Order::Below => show::write(rt, b" below\n"),
+        Order::Same => show::write(rt, b" same\n"),
+        Order::Above => show::write(rt, b" above\n"),
     }
 }
 
-fn show_run(name: &[u8], p: Position, q: Position, site: u8, last: u16) {
-    show::write(name);
-    show_place(p, q, site, 0);
-    show_place(p, q, site, last as u32);
-    show_place(p, q, site, last as u32 + 1);
-    show::write(b"\n");
+fn show_run(rt: &impl Print, name: &[u8], p: Position, q: Position, site: u8, last: u16) -> io::Result<()> {
+    show::write(rt, name)?;
+    show_place(rt, p, q, site, 0)?;
+    show_place(rt, p, q, site, last as u32)?;
+    show_place(rt, p, q, site, last as u32 + 1)?;
+    show::write(rt, b"\n")
 }
 
-fn show_draw(name: &[u8], p: Position, q: Position, site: u8, draw: u32) {
-    show::write(name);
-    show::write(b" draw ");
-    show::number(draw as u64);
-    show_place(p, q, site, draw);
-    show::write(b"\n");
+fn show_draw(rt: &impl Print, name: &[u8], p: Position, q: Position, site: u8, draw: u32) -> io::Result<()> {
+    show::write(rt, name)?;
+    show::write(rt, b" draw ")?;
+    show::number(rt, draw as u64)?;
+    show_place(rt, p, q, site, draw)?;
+    show::write(rt, b"\n")
 }
 
 // The place as integer.site, joined by commas.
-fn show_place(p: Position, q: Position, site: u8, draw: u32) {
+fn show_place(rt: &impl Print, p: Position, q: Position, site: u8, draw: u32) -> io::Result<()> {
     let placed = place(p, q, site, draw);
     if placed.made {
-        show::write(b" ");
-        show::position(placed.place);
+        show::write(rt, b" ")?;
+        show::position(rt, placed.place)?;
     } else {
-        show::write(b" none");
+        show::write(rt, b" none")?;
     }
+    Ok(())
 }

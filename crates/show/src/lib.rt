@@ -1,34 +1,52 @@
 // What the programs of this repository write: bytes as they are, bytes in hexadecimal, numbers,
-// counts, and positions as 01's listing has them.
+// counts, and positions as 01's listing has them; and how they read their input.
 //
-// Rests on `position`, and on `io` to write.
+// Rests on `position`, and on `std` to read and write: what is written goes to standard output by the
+// program's runtime, and a write or a read that fails is returned as its error.
 #![tactic(auto)]
 
-use libc::STDOUT_FILENO;
+ghost use Rattle.std.specs.Prelude.{◌≤◌, IfOk, length};
+
 use position::{Identifier, Position};
+use std::io;
+use std::io::Read;
+
+// Fills a buffer from the front, up to the end of the input, and gives how many bytes were read.
+pub fn read_full<R: Read>(input: &mut R, buffer: &mut [u8]) -> io::Result<usize>
+    ensures { IfOk result (λ n. n ≤ length buffer.new) }
+{
+    let mut n = 0;
+    while n < buffer.len() {
+        let more = input.read(&mut buffer[n..])?;
+        if more == 0 {
+            return Ok(n);
+        }
+        n += more;
+    }
+    Ok(n)
+}
 
 // Bytes as they are.
-pub fn write(bytes: &[u8]) {
-    io::write_all(STDOUT_FILENO, bytes);
+pub fn write(rt: &impl Print, bytes: &[u8]) -> io::Result<()> {
+    rt.write_all(bytes)
 }
 
 // A number, in decimal.
-pub fn number(n: u64) {
-    io::print_decimal(STDOUT_FILENO, n);
+pub fn number(rt: &impl Print, n: u64) -> io::Result<()> {
+    print!(rt; "{n}")
 }
 
 // Bytes in hexadecimal, two digits each.
-pub fn hex(bytes: &[u8]) {
-    let mut i = 0;
-    while i < bytes.len() {
-        byte(bytes[i]);
-        i += 1;
+pub fn hex(rt: &impl Print, bytes: &[u8]) -> io::Result<()> {
+    for b in bytes {
+        byte(rt, *b)?;
     }
+    Ok(())
 }
 
-fn byte(b: u8) {
+fn byte(rt: &impl Print, b: u8) -> io::Result<()> {
     let pair = [digit(b / 16), digit(b % 16)];
-    write(&pair);
+    write(rt, &pair)
 }
 
 // The hexadecimal digit of a number below 16.
@@ -43,36 +61,38 @@ fn digit(n: u8) -> u8 {
 }
 
 // The counts that are not zero, as site:count.
-pub fn counts(counts: [u32; 16]) {
+pub fn counts(rt: &impl Print, counts: [u32; 16]) -> io::Result<()> {
     let mut i = 0;
     while i < 16 {
         let count = counts[i];
         if 0 < count {
-            write(b" ");
-            number((i + 1) as u64);
-            write(b":");
-            number(count as u64);
+            write(rt, b" ")?;
+            number(rt, (i + 1) as u64)?;
+            write(rt, b":")?;
+            number(rt, count as u64)?;
         }
         i += 1;
     }
+    Ok(())
 }
 
 // A position: its identifiers as integer.site, joined by commas.
-pub fn position(p: Position) {
+pub fn position(rt: &impl Print, p: Position) -> io::Result<()> {
     let mut i = 0;
     while i < Position::LIMIT {
         if i < p.used {
-            identifier(i, p.ids[i]);
+            identifier(rt, i, p.ids[i])?;
         }
         i += 1;
     }
+    Ok(())
 }
 
-fn identifier(i: usize, next: Identifier) {
+fn identifier(rt: &impl Print, i: usize, next: Identifier) -> io::Result<()> {
     if 0 < i {
-        write(b",");
+        write(rt, b",")?;
     }
-    number(next.integer as u64);
-    write(b".");
-    number(next.site as u64);
+    number(rt, next.integer as u64)?;
+    write(rt, b".")?;
+    number(rt, next.site as u64)
 }
