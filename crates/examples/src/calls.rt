@@ -51,11 +51,9 @@ fn show_full(rt: &impl Print) -> io::Result<()> {
 fn full(table: &mut [u8], patch: &mut [u8]) -> Replica {
     let started = hosts::start(unused(), table, 1);
     let mut r = started.replica;
-    let mut row = 0;
-    while row < ROWS {
+    for row in 0..ROWS {
         let put = hosts::insert(r, table, row, 0, b"", patch);
         r = put.replica;
-        row += 1;
     }
     r
 }
@@ -64,8 +62,7 @@ fn full(table: &mut [u8], patch: &mut [u8]) -> Replica {
 // number 2, then hears site 3. Number 2 stays. That the late delete was counted shows in the answer to
 // site 3's next patch; and site 2, offered the struck line again, does not take it.
 //
-// Each buffer is a slice from the start: where an array is lent anew for each call, its length is to be
-// shown anew each time.
+// Each buffer is a slice from the start, and lent on to each call.
 fn show_struck_by_two(rt: &impl Print) -> io::Result<()> {
     let first = &mut [0u8; TABLE][..];
     let second = &mut [0u8; TABLE][..];

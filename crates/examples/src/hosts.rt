@@ -1,6 +1,5 @@
-// A host keeps its record in a local and lends it to a call: once for each entry of `lent` that changes it. A
-// function that holds a reference to a struct is proved by a walk by hand, so the lending stands here, and the
-// examples take the record by value and give it on.
+// A host keeps its record in a local and lends it to a call: once for each entry of `lent` that changes it. The
+// lending stands here; the examples take the record by value and give it on.
 ghost use Rattle.std.specs.Prelude.{◌≡◌};
 ghost use Rattle.replica.specs.Start.{start_call};
 ghost use Rattle.replica.specs.Receive.{receive_call};

@@ -76,7 +76,14 @@ fn show_order(rt: &impl Print, name: &[u8], p: Position, q: Position) -> io::Res
     }
 }
 
-fn show_run(rt: &impl Print, name: &[u8], p: Position, q: Position, site: u8, last: u16) -> io::Result<()> {
+fn show_run(
+    rt: &impl Print,
+    name: &[u8],
+    p: Position,
+    q: Position,
+    site: u8,
+    last: u16,
+) -> io::Result<()> {
     show::write(rt, name)?;
     show_place(rt, p, q, site, 0)?;
     show_place(rt, p, q, site, last as u32)?;
@@ -84,7 +91,14 @@ fn show_run(rt: &impl Print, name: &[u8], p: Position, q: Position, site: u8, la
     show::write(rt, b"\n")
 }
 
-fn show_draw(rt: &impl Print, name: &[u8], p: Position, q: Position, site: u8, draw: u32) -> io::Result<()> {
+fn show_draw(
+    rt: &impl Print,
+    name: &[u8],
+    p: Position,
+    q: Position,
+    site: u8,
+    draw: u32,
+) -> io::Result<()> {
     show::write(rt, name)?;
     show::write(rt, b" draw ")?;
     show::number(rt, draw as u64)?;

@@ -157,7 +157,13 @@ fn try_buffers(rt: &impl Print) -> io::Result<()> {
 }
 
 // Writes into the first bytes of 170 that are 7, and shows what then stands in front and behind.
-fn show_written(rt: &impl Print, name: &[u8], p: Patch, text: [u8; TEXT], room: usize) -> io::Result<()> {
+fn show_written(
+    rt: &impl Print,
+    name: &[u8],
+    p: Patch,
+    text: [u8; TEXT],
+    room: usize,
+) -> io::Result<()> {
     let mut buffer = [7u8; 170];
     if room <= 170 {
         let done = write(p, &text, &mut buffer[..room]);
@@ -211,7 +217,13 @@ fn try_befores(rt: &impl Print) -> io::Result<()> {
     before(rt, b"number 1 with an own entry", 1, 0, 1)?;
     before(rt, b"number 2 with own entry 1", 2, 0, 1)?;
     before(rt, b"number 3 with own entry 1", 3, 0, 1)?;
-    before(rt, b"number 1000000 with own entry 999999", 1000000, 0, 999999)?;
+    before(
+        rt,
+        b"number 1000000 with own entry 999999",
+        1000000,
+        0,
+        999999,
+    )?;
     before(rt, b"site 16 at 1000000", 1, 15, 1000000)?;
     before(rt, b"site 16 at 1000001", 1, 15, 1000001)
 }
@@ -271,7 +283,13 @@ fn try_lines(rt: &impl Print) -> io::Result<()> {
     struck(rt, b"a delete without an entry", 0, 1, [0u8; TEXT])?;
     struck(rt, b"a delete of number 0", 1, 0, [0u8; TEXT])?;
     struck(rt, b"a delete of number 1", 1, 1, [0u8; TEXT])?;
-    struck(rt, b"a delete of number 2, above the entry", 1, 2, [0u8; TEXT])?;
+    struck(
+        rt,
+        b"a delete of number 2, above the entry",
+        1,
+        2,
+        [0u8; TEXT],
+    )?;
     struck(rt, b"a delete with a text", 1, 1, go_text())
 }
 
@@ -290,7 +308,13 @@ fn edited(rt: &impl Print, name: &[u8], edit: Edit, text: [u8; TEXT]) -> io::Res
 }
 
 // A delete by site 3 of a line of site 1, of which it had received this many patches.
-fn struck(rt: &impl Print, name: &[u8], received: u32, number: u32, text: [u8; TEXT]) -> io::Result<()> {
+fn struck(
+    rt: &impl Print,
+    name: &[u8],
+    received: u32,
+    number: u32,
+    text: [u8; TEXT],
+) -> io::Result<()> {
     let mut counts = [0u32; SITES];
     counts[0] = received;
     let place = one(1, 1);

@@ -210,6 +210,7 @@ impl Cursor {
     }
 
     // The head: kind, author, number.
+    #[tactic(auto, using(crate::proofs::Sections::head_read))]
     pub fn head(self, s: &[u8]) -> HeadField
         ensures { Reads encode_head KindAndHead s.now self result.value result.next }
     {
@@ -228,6 +229,7 @@ impl Cursor {
     }
 
     // An entry of Before whose site is above the last one.
+    #[tactic(auto, using(crate::proofs::Sections::entry_read))]
     fn entry(self, s: &[u8], last: u8) -> EntryField
         requires { last ≤ 16 }
         ensures { Reads encode_entry (EntryAbove last) s.now self result.value result.next }
@@ -350,6 +352,7 @@ impl Cursor {
     }
 
     // The line of a delete: always 4 bytes, the number of the line struck.
+    #[tactic(auto, using(crate::proofs::Sections::struck_read))]
     fn struck(self, s: &[u8]) -> LineField
         ensures { Reads encode_line (LineOfKind 2) s.now self result.value result.next }
     {

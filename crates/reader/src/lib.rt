@@ -59,6 +59,7 @@ pub fn read_first(s: &[u8]) -> Reading
 }
 
 // Reads exactly one patch: a byte left over is malformed.
+#[tactic(auto, unfolding(crate::specs::Read::read_one))]
 pub fn read_one(s: &[u8]) -> Reading
     ensures { result ≡ read_one s.now }
 {

@@ -62,8 +62,7 @@ fn digit(n: u8) -> u8 {
 
 // The counts that are not zero, as site:count.
 pub fn counts(rt: &impl Print, counts: [u32; 16]) -> io::Result<()> {
-    let mut i = 0;
-    while i < 16 {
+    for i in 0..16 {
         let count = counts[i];
         if 0 < count {
             write(rt, b" ")?;
@@ -71,19 +70,16 @@ pub fn counts(rt: &impl Print, counts: [u32; 16]) -> io::Result<()> {
             write(rt, b":")?;
             number(rt, count as u64)?;
         }
-        i += 1;
     }
     Ok(())
 }
 
 // A position: its identifiers as integer.site, joined by commas.
 pub fn position(rt: &impl Print, p: Position) -> io::Result<()> {
-    let mut i = 0;
-    while i < Position::LIMIT {
+    for i in 0..Position::LIMIT {
         if i < p.used {
             identifier(rt, i, p.ids[i])?;
         }
-        i += 1;
     }
     Ok(())
 }
