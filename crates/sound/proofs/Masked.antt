@@ -37,8 +37,7 @@ behind mask is b n j small most less = by_cases (dec_lt j n) before from
         let more-than : n ≤ j = omega arith in
         let place_is : 48 + (j - n) ≡ place = omega arith in
         let at : get_or mask place 0 ≡ 255 =
-        ap (λ (l : List ℕ). get_or l place 0) is ∙ ap (λ (k : ℕ). get_or behind_mask k 0) (sym place_is) ∙ get_or-append-add (replicate 48 0) (replicate 48 255) (j - n) 0
-        ∙ get_or-replicate 48 (j - n) 255 0 (omega arith) in
+        rw (is, ← place_is, get_or-append-add {A = ℕ} (replicate 48 0) (replicate 48 255) (j - n) 0) (get_or-replicate 48 (j - n) 255 0 (omega arith)) in
         let whole : bit_and b (get_or mask place 0) ≡ b = ap (bit_and b) at ∙ let_through b small in
         (λ h _. sym whole ∙ h, λ h. whole ∙ h more-than)
 

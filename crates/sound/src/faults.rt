@@ -34,6 +34,7 @@ pub(crate) fn start_mask() -> [u8; 32]
 }
 
 // Not 0 where an identifier is neither the pad nor has both parts, in range.
+#[tactic(auto, using(rows::proofs::Turns::or_clear))]
 fn slot_fault(high: u8, low: u8, site: u8) -> u8
     ensures { (result ≡ 0) ↔ Proper (identifier (high * 256 + low) site) }
 {

@@ -64,6 +64,7 @@ fn rows_fit(rows: usize, counts: &[u32; SITES], table: &[u8]) -> bool
 }
 
 // One row by itself.
+#[tactic(auto, using(crate::proofs::Identifiers::author_most))]
 fn row_fits(row: &[u8], counts: &[u32; SITES], behind: &[u8; 96], starts: &[u8; 32]) -> bool
     requires { (78 ≤ length row.now) × ((behind.now ≡ behind_mask) × (starts.now ≡ start_mask)) }
     ensures { (result ≡ true) ↔ RowFits counts.now row.now }
