@@ -13,6 +13,7 @@ use record::{LAST_NUMBER, SITES, counts_fit};
 use rows::moves::all_zero;
 
 // Whether a patch with this text beside it is well-formed, for any values of both.
+#[tactic(auto, using(crate::proofs::Parts::fields_agree))]
 pub fn well_formed(p: Patch, text: &[u8; TEXT]) -> bool
     ensures { (result ≡ true) ↔ WellFormed p text.now }
 {
@@ -141,6 +142,7 @@ fn text_fits(length: usize, text: &[u8; TEXT]) -> bool
 
 // The fields against each other: the author's own entry in Before is its number less 1, the first
 // integer leaves room below the end, and the last site of the place is the one that the edit asks for.
+#[tactic(auto, using(crate::proofs::Places::used_proper))]
 pub fn agrees(p: Patch) -> bool
     requires { HeadFits p.author p.number × PlaceFits p.place }
     ensures { (result ≡ true) ↔ Agrees p }

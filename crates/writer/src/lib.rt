@@ -29,6 +29,7 @@ pub struct Written {
 
 // Writes a patch with its text at the front of a buffer of at least 161 bytes. The bytes behind it
 // stay, and so does the whole buffer where it is refused.
+#[tactic(auto, using(crate::proofs::Writes::too_short, crate::proofs::Writes::malformed, crate::proofs::Writes::written_done))]
 pub fn write(p: Patch, text: &[u8; TEXT], buffer: &mut [u8]) -> Written
     ensures { record { answer = result.answer; length = result.length; buffer = buffer.new } ≡ write_patch p text.now buffer.old }
 {
@@ -53,6 +54,7 @@ pub fn write(p: Patch, text: &[u8; TEXT], buffer: &mut [u8]) -> Written
 }
 
 // The four sections, one behind the other; gives how many bytes they are.
+#[tactic(auto, using(format::proofs::Sections::before_most_lem, format::proofs::Sections::place_most_lem))]
 fn put_patch(p: Patch, text: &[u8; TEXT], buffer: &mut [u8]) -> usize
     requires { WellFormed p text.now × (most_size ≤ length buffer.old) }
     ensures { (result ≡ length (patch_bytes p text.now)) × (buffer.new ≡ written 0 (patch_bytes p text.now) buffer.old) }

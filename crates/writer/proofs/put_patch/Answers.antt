@@ -1,11 +1,6 @@
--- `put_patch` meets its contract: a well-formed patch's sections fit, and they stand one behind the other.
+-- The sections stand one behind the other.
 -- Assumes nothing.
-use Prim.Native.Nat.{ℕ, ◌+◌, ◌≤◌}
-use native.Mathlib.Omega.{arith}
-use borrow.Author.Rules.{rules}
-use mathlib.Core.Path.{◌≡◌, ap, ◌∙◌}
-use mathlib.Core.List.{List, ◌++◌, append_assoc}
-use lib.ListN.{length, length-append}
+use Rattle.std.proofs.Common.{◌≡◌, ◌+◌, ◌≤◌, ℕ, List, ◌++◌, length, ap, ◌∙◌, append_assoc, length-append, arith}
 use Rattle.position.specs.Positions.{ids_of}
 use Rattle.rows.specs.Rows.{written}
 use Rattle.rows.proofs.Bytes.{written_both}
@@ -14,8 +9,7 @@ use Rattle.format.specs.Patches.{head_size, before_most, place_most, most_size, 
 use Rattle.format.specs.WellFormed.{WellFormed}
 use Rattle.format.proofs.Sections.{before_most_lem, place_most_lem}
 use Rattle.format.proofs.Sizes.{head_length}
-use Rattle.writer.proofs.put_patch.Statement.{statement}
-use Rattle.writer.proofs.put_patch.Tie as tie
+use Rattle.writer.proofs.put_patch.Goals as goal
 
 -- What a step of the writer does with a buffer s: these bytes are written at a place, and it gives the spot behind them.
 abbrev Put : ℕ → List ℕ → List ℕ → ℕ → List ℕ → Type 0
@@ -35,52 +29,27 @@ patch_written : (p : Patch) (text s s₁ s₂ s₃ s₄ : List ℕ) (place_at li
     → Put head_size (before_bytes p.before) s₁ place_at s₂
     → Put place_at (place_bytes (ids_of p.place)) s₂ line_at s₃
     → Put line_at (line_bytes p.edit text) s₃ end s₄
-    → (end ≡ length (patch_bytes p text)) × (s₄ ≡ written 0 (patch_bytes p text) s)
+    → Put 0 (patch_bytes p text) s end s₄
 unfolding patch_bytes
 patch_written p text s s₁ s₂ s₃ s₄ place_at line_at end well room headed counted placed lined =
     let head = head_bytes (kind_of p.edit) p.author p.number in
     let before = before_bytes p.before in
     let place = place_bytes (ids_of p.place) in
     let line = line_bytes p.edit text in
-    let before-short : length before ≤ before_most = before_most_lem p.before well.before.size in
+    let before_short : length before ≤ before_most = before_most_lem p.before well.before.size in
     let place_short : length place ≤ place_most = place_most_lem (ids_of p.place) well.place.most in
     let one : Put 0 head s head_size s₁ = (omega (arith, head_length (kind_of p.edit) p.author p.number), headed) in
     let two = put_both 0 head_size place_at head before s s₁ s₂ one counted (omega arith) in
     let three = put_both 0 place_at line_at (head ++ before) place s s₂ s₃ two placed (omega arith) in
     let four = put_both 0 line_at end ((head ++ before) ++ place) line s s₃ s₄ three lined (omega arith) in
-    let whole : Put 0 (head ++ (before ++ (place ++ line))) s end s₄ = simp append_assoc at four in
-    (omega (arith, whole.0), whole.1)
+    simp append_assoc at four
 
-pub put-patch-spec : {M : Type 1} → statement M
-put-patch-spec =
-    tie.close
-    (tie.spec
-    (λ c κs. search rules)
-    (λ c κs. search rules)
-    (λ c κs. search rules)
-    (λ c κs.
-    let start = c.before.before.before.before.before.before.before.before.before.before.before.before in
-    omega (arith, before_most_lem start.args.p.before start.requires.0.before.size))
-    (λ c κs.
-    let start = c.before.before.before.before.before.before.before.before.before.before.before.before.before.before.before.before in
-    let p = start.args.p in
-    let text = start.args.text.now in
-    let well = start.requires.0 in (
-      well.line,
-      omega (arith, before_most_lem p.before well.before.size, place_most_lem (ids_of p.place) well.place.most),
-    ))
-    (λ c. search rules)
-    (λ c.
-    let lined = c.before.before in
-    let placed = lined.before.before.before.before in
-    let counted = placed.before.before.before.before in
-    let headed = counted.before.before.before.before in
-    let start = headed.before.before.before.before.before in
-    let p = start.args.p in
-    let s = start.args.buffer.now in
-    let kind : headed.before.before.kind.result ≡ kind_of p.edit = headed.before.before.kind.ensures in
-    patch_written p start.args.text.now s headed.put-head.new.1.1.1.0 counted.put-before.new.1.0 placed.put-place.new.1.0
-    lined.put-line.new.1.1.0 counted.put-before.result placed.put-place.result lined.put-line.result
-    start.requires.0 start.requires.1
-    (headed.put-head.ensures ∙ ap (λ (k : ℕ). written 0 (head_bytes k p.author p.number) s) kind)
-    counted.put-before.ensures placed.put-place.ensures lined.put-line.ensures))
+pub returns : goal.returns
+returns c =
+    let p = c.args.p in
+    let s = c.args.buffer.now in
+    let headed : c.put_head.new.buffer ≡ written 0 (head_bytes (kind_of p.edit) p.author p.number) s = cc in
+    let whole = patch_written p c.args.text.now s c.put_head.new.buffer c.put_before-place_at.new.buffer c.put_place-line_at.new.buffer c.put_line.new.buffer
+    c.put_before-place_at.result c.put_place-line_at.result c.put_line.result
+    c.requires.0 c.requires.1 headed c.put_before-place_at.ensures c.put_place-line_at.ensures c.put_line.ensures in
+    (omega (arith, whole.0), whole.1)

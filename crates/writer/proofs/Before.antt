@@ -1,11 +1,10 @@
--- `put_before` meets its contract. The loop's invariant: the entries of the counts passed are written, with
--- one byte left in front of them. The measure is how many counts are left.
+-- Writing Before: after some counts, their entries are written, with one byte left in front of them for how
+-- many they are.
 -- Assumes nothing.
-use Prim.Native.Nat.{ℕ, ◌+◌, ◌-◌, ◌*◌, ◌≤◌, ◌<◌}
+use Prim.Native.Nat.{ℕ, ◌+◌, ◌*◌, ◌≤◌, ◌<◌}
 use native.Mathlib.Nat.{add_comm}
 use native.Mathlib.Omega.{arith}
 use mathlib.Core.Path.{◌≡◌, refl, sym, ap, ◌∙◌}
-use mathlib.Core.Logic.{⊎_elim}
 use mathlib.Core.List.{List, [], ◌∷◌, ◌++◌, append-nil}
 use lib.ListN.{length, take, get_or, length-append}
 use lib.Seq.{take_all}
@@ -19,21 +18,31 @@ use Rattle.format.specs.Patches.{encode_entry, entries_from, before_bytes, befor
 use Rattle.format.proofs.Entries.{no_entry_more, entry_more}
 use Rattle.format.proofs.Sections.{section_counted}
 use Rattle.format.proofs.Sizes.{entry_length, before_length}
-use Rattle.writer.proofs.put_before.Statement.{statement}
-use Rattle.writer.proofs.put_before.Tie as tie
 
 -- the entries of the first i counts
 abbrev entries_to : ℕ → List ℕ → List Entry
 entries_to i counts = entries_from 1 (take i counts)
 
 -- after i counts: their entries are written and counted
-record Passed (s₀ : List ℕ) (at : ℕ) (counts s : List ℕ) (end entries i : ℕ) : Type 0 where
-  inside : i ≤ 16
-  few : entries ≤ i
-  size : length s ≡ length s₀
-  ending : end ≡ (at + 1) + entries * 5
-  number : entries ≡ length (entries_to i counts)
-  bytes : s ≡ written (at + 1) (flat encode_entry (entries_to i counts)) s₀
+pub record Passed (s₀ : List ℕ) (at : ℕ) (counts s : List ℕ) (end entries i : ℕ) : Type 0 where
+  pub inside : i ≤ 16
+  pub few : entries ≤ i
+  pub size : length s ≡ length s₀
+  pub ending : end ≡ (at + 1) + entries * 5
+  pub number : entries ≡ length (entries_to i counts)
+  pub bytes : s ≡ written (at + 1) (flat encode_entry (entries_to i counts)) s₀
+
+-- before the first count nothing is written
+pub none_passed : (s : List ℕ) (at : ℕ) (counts : List ℕ) → Passed s at counts s (at + 1) 0 0
+unfolding flat entries_from
+none_passed s at counts = record {
+  inside = omega arith;
+  few = omega arith;
+  size = refl;
+  ending = omega arith;
+  number = refl;
+  bytes = nothing_written (at + 1) s;
+}
 
 -- one entry more, its site and then its count
 entry_written : (entries : List Entry) (e : Entry) (at next : ℕ) (s : List ℕ)
@@ -56,34 +65,34 @@ entry_written entries e at next s n room =
 
 -- One count more passed: one that is zero has no entry, any other has one.
 module _ {s₀ : List ℕ} {at : ℕ} {counts s : List ℕ} {end entries i : ℕ} (so_far : Passed s₀ at counts s end entries i)
-    (left : i < length counts) (sixteen : length counts ≡ 16) {s₁ : List ℕ} {end₁ entries₁ : ℕ} where
-  passed_no_entry : get_or counts i 0 ≡ 0 → s₁ ≡ s → end₁ ≡ end → entries₁ ≡ entries → Passed s₀ at counts s₁ end₁ entries₁ (i + 1)
-  passed_no_entry z b e n =
+    (left : i < length counts) (sixteen : length counts ≡ 16) where
+  pub passed_no_entry : get_or counts i 0 ≡ 0 → Passed s₀ at counts s end entries (i + 1)
+  passed_no_entry z =
       let same = no_entry_more 1 i counts left z in
       record {
         inside = omega arith;
         few = omega arith;
-        size = ap length b ∙ so_far.size;
-        ending = omega arith;
-        number = rw same (n ∙ so_far.number);
-        bytes = rw same (b ∙ so_far.bytes);
+        size = so_far.size;
+        ending = so_far.ending;
+        number = rw same so_far.number;
+        bytes = rw same so_far.bytes;
       }
 
-  passed_entry : 0 < get_or counts i 0 → at + before_most ≤ length s₀
+  pub passed_entry : {s₁ : List ℕ} → 0 < get_or counts i 0 → at + before_most ≤ length s₀
       → s₁ ≡ written (end + 1) (bytes_of 4 (get_or counts i 0)) (written end (bytes_of 1 (i + 1)) s)
-      → end₁ ≡ end + 5 → entries₁ ≡ entries + 1 → Passed s₀ at counts s₁ end₁ entries₁ (i + 1)
-  passed_entry some room b e n =
+      → Passed s₀ at counts s₁ (end + 5) (entries + 1) (i + 1)
+  passed_entry {s₁} some room b =
       let passed = entries_to i counts in
       let own : Entry = record { site = 1 + i; count = get_or counts i 0 } in
       let more : entries_to (i + 1) counts ≡ passed ++ (own ∷ []) = entry_more 1 i counts left some in
-      let number : entries₁ ≡ length (passed ++ (own ∷ [])) = omega (arith, length-append passed (own ∷ [])) in
+      let number : entries + 1 ≡ length (passed ++ (own ∷ [])) = omega (arith, so_far.number, length-append passed (own ∷ [])) in
       let all = flat encode_entry (passed ++ (own ∷ [])) in
-      let long : length all ≡ entries₁ * 5 = flat_length encode_entry 5 entry_length (passed ++ (own ∷ [])) ∙ ap (λ (k : ℕ). k * 5) (sym number) in
+      let long : length all ≡ (entries + 1) * 5 = flat_length encode_entry 5 entry_length (passed ++ (own ∷ [])) ∙ ap (λ (k : ℕ). k * 5) (sym number) in
       let bytes : s₁ ≡ written (at + 1) all s₀ =
       b
       ∙ ap (λ (k : ℕ). written (end + 1) (bytes_of 4 own.count) (written end (bytes_of 1 k) s)) (add_comm i 1)
       ∙ ap (λ (l : List ℕ). written (end + 1) (bytes_of 4 own.count) (written end (bytes_of 1 own.site) l)) so_far.bytes
-      ∙ entry_written passed own (at + 1) end s₀ (omega arith) (omega arith) in
+      ∙ entry_written passed own (at + 1) end s₀ (omega (arith, so_far.number)) (omega arith) in
       record {
         inside = omega arith;
         few = omega arith;
@@ -94,7 +103,7 @@ module _ {s₀ : List ℕ} {at : ℕ} {counts s : List ℕ} {end entries i : ℕ
       }
 
 -- all counts passed, and the number of their entries written in front of them
-before_written : {s₀ : List ℕ} {at : ℕ} {counts s : List ℕ} {end entries i : ℕ} → Passed s₀ at counts s end entries i
+pub before_written : {s₀ : List ℕ} {at : ℕ} {counts s : List ℕ} {end entries i : ℕ} → Passed s₀ at counts s end entries i
     → length counts ≤ i → at + 1 ≤ length s₀ → {s₁ : List ℕ} → s₁ ≡ written at (bytes_of 1 entries) s
     → (end ≡ at + length (before_bytes counts)) × (s₁ ≡ written at (before_bytes counts) s₀)
 unfolding before_bytes
@@ -110,48 +119,3 @@ before_written {s₀} {at} {counts} {s} {end} {entries} {i} passed all room b =
           ∙ ap (written at (bytes_of 1 (length own))) stands
           ∙ section_counted (length own) bytes at s₀ room,
     )
-
-pub put-before-spec : {M : Type 1} → statement M
-unfolding flat entries_from
-put-before-spec =
-    tie.close
-    (tie.spec
-    (λ buffer₀ at counts end₀ entries₀ i₀ buffer end entries i. Passed buffer₀ at counts buffer end entries i)
-    (λ buffer₀ at counts end₀ entries₀ i₀ buffer end entries i. 16 - i)
-    (λ c. omega arith)
-    (λ c.
-    let a = c.before.args in
-    record {
-      inside = omega arith;
-      few = omega arith;
-      size = refl;
-      ending = omega arith;
-      number = refl;
-      bytes = nothing_written (a.at + 1) a.buffer.now;
-    })
-    (λ c. omega arith)
-    (λ c. omega arith)
-    (λ c. omega arith)
-    (λ c. omega arith)
-    (λ c κs. omega arith)
-    (λ c. omega arith)
-    (λ c κs. omega arith)
-    (λ c. omega arith)
-    (λ c. omega arith)
-    (λ c. omega arith)
-    (λ c. omega arith)
-    (λ c.
-    let at = c.before.before.loop in
-    let a = c.before.before.before.before.args in
-    let count = get_or a.t1 at.i 0 in
-    ⊎_elim
-    (λ w.
-    passed_entry at.invariant (omega arith) (omega arith) w.0.taken c.before.before.before.before.requires
-    (w.9 ∙ w.6.ensures ∙ ap (written (at.end + 1) (bytes_of 4 count)) w.2.ensures) w.10 w.11)
-    (λ w. passed_no_entry at.invariant (omega arith) (omega arith) (omega (arith, w.0.left)) w.1 w.2 w.3)
-    c.if1.branch)
-    (λ c κs. omega arith)
-    (λ c. omega arith)
-    (λ c.
-    let at = c.before.before.before.before.before.loop in
-    before_written at.invariant (omega arith) (omega arith) c.before.before.put-12.ensures))
