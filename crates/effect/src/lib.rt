@@ -53,6 +53,7 @@ pub fn apply(r: Replica, table: &mut [u8], p: Patch, text: &[u8; TEXT], found: F
 }
 
 // The counts with that of this site raised by 1.
+#[tactic(auto, unfolding(crate::specs::Effect::raised))]
 fn raised(counts: [u32; SITES], site: u8) -> [u32; SITES]
     requires { (1 ≤ site) × ((site ≤ 16) × (count_of counts site < 1000000)) }
     ensures { result ≡ raised counts site }

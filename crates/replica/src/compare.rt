@@ -61,6 +61,7 @@ fn no_lack() -> Lack
 }
 
 // What one side lacks, of two counts of a site.
+#[tactic(auto, unfolding(crate::specs::Compare::lack_of))]
 fn lack_of(first: u32, second: u32) -> Lack
     ensures { result ≡ lack_of first second }
 {

@@ -1,14 +1,8 @@
--- `edit_table` meets its contract: an insert's line is put in where its place was found to stand, and a
--- delete strikes the line at its place.
+-- An insert's line is put in where its place was found to stand, and a delete strikes the line at its
+-- place.
 -- Assumes nothing.
-use Prim.Native.Nat.{ℕ, ◌+◌, ◌-◌, ◌*◌, ◌≤◌, ◌<◌}
+use Rattle.std.proofs.Common.{◌≡◌, true, ◌≤◌, ◌<◌, ℕ, ◌+◌, ◌-◌, ◌*◌, List, take, refl, ap, ◌∙◌, arith, rules}
 use native.Mathlib.Nat.{sub-zero}
-use native.Mathlib.Omega.{arith}
-use borrow.Author.Rules.{rules}
-use mathlib.Core.Path.{◌≡◌, refl, ap, ◌∙◌}
-use mathlib.Core.Bool.{true}
-use mathlib.Core.List.{List}
-use lib.ListN.{take}
 use Rattle.position.specs.Positions.{ids_of}
 use Rattle.rows.specs.Rows.{put_in, within}
 use Rattle.rows.proofs.Digits.{Bytes}
@@ -25,8 +19,7 @@ use Rattle.effect.specs.Effect.{row_of, is_row, put, numbered, line_row, without
 use Rattle.effect.specs.Effect.{struck_answer, done_answer, inserts}
 use Rattle.effect.specs.Steps.{Ready, Leaves}
 use Rattle.effect.proofs.Edits.{found_inside, row_inside}
-use Rattle.effect.proofs.edit_table.Statement.{statement}
-use Rattle.effect.proofs.edit_table.Tie as tie
+use Rattle.effect.proofs.edit_table.Goals as goal
 
 module _ {r : Replica} {t : List ℕ} {p : Patch} {text : List ℕ} {found : Found} (ready : Ready r t p text found) where
   abbrev lines : List Line
@@ -44,6 +37,7 @@ module _ {r : Replica} {t : List ℕ} {p : Patch} {text : List ℕ} {found : Fou
   room : {n : ℕ} → p.edit ≡ Insert n → r.rows < 512
   room e = omega (arith, ready.takes.room (ap inserts e), lines_length r.rows t)
 
+  -- the line of an insert is put in there
   line_put : {n k : ℕ} {row after : List ℕ} → Bytes t → p.edit ≡ Insert n → k ≡ row_of found
       → row ≡ encode_row (record { position = ids_of p.place; number = p.number; text = take (n - 0) text })
       → after ≡ within ((r.rows + 1) * row_size) (put_in (k * row_size) row) t
@@ -59,44 +53,24 @@ module _ {r : Replica} {t : List ℕ} {p : Patch} {text : List ℕ} {found : Fou
         bytes = is ∙ rw (at, bytes, sub-zero n) (put_bytes r t b ready.sound (row_of found) l inside (room e));
       })
 
+  -- what is left where the row found is struck is what a delete leaves
   line_struck : {n : ℕ} {c : Changed} {after : List ℕ} → p.edit ≡ Delete n
       → Leaves (without (numbered n lines found) lines) (struck_answer (numbered n lines found)) c after
       → Leaves (edited p p.edit text lines) (done_answer p p.edit lines) c after
   unfolding edited strike line_row done_answer
   line_struck e left = rw (e, ← ready.place) left
 
--- an insert's text has at most 48 bytes
-short : (c : tie.After-edit) → c.edit.given.0.0 ≤ 48
-short c = (rw c.edit.given.1 at c.before.before.before.requires.takes.patch.line).0
+pub put_row-requires : goal.put_row-requires
+put_row-requires c =
+    (c.requires.sound.size, (room c.requires c.in-Insert.is, rw c.row_of.ensures (inside c.requires)))
 
-pub edit-table-spec : {M : Type 1} → statement M
-edit-table-spec =
-    tie.close
-    (tie.spec
-    (λ c. search rules)
-    (λ c. search rules)
-    (λ c. search rules)
-    (λ c. omega (arith, short c.before.before))
-    (λ c κs. omega (arith, short c.before.before.before))
-    (λ c. search rules)
-    (λ c κs. search rules)
-    (λ c κs.
-    let told = c.before.before.before.before.before.before.before.before in
-    let ready = told.before.before.before.requires in
-    (ready.sound.size, (room ready told.edit.given.1, rw c.before.row_of_lem.ensures (inside ready))))
-    (λ c. search rules)
-    (λ c. search rules)
-    (λ c κs. let ready = c.before.before.before.before.before.requires in (ready.sound, in_use ready))
-    (λ c. search rules)
-    (λ c.
-    let moved = c.before.before.before in
-    let at = moved.before.before in
-    let made = at.before.before.before in
-    let told = made.before.before.before.before in
-    line_put told.before.before.before.requires (λ i. (told.before.before.slice-known.given i).fits)
-    told.edit.given.1 at.row_of_lem.ensures made.encode.ensures moved.put-row.ensures)
-    (λ c. search rules)
-    (λ c.
-    let done = c.before.before in
-    let told = done.before.before.before in
-    line_struck told.before.before.before.requires told.edit2.given.1 done.strike.ensures))
+pub strike-requires : goal.strike-requires
+strike-requires c = (c.requires.sound, in_use c.requires)
+
+pub returns-in-Insert : goal.returns-in-Insert
+returns-in-Insert c =
+    let b : Bytes c.args.table.now = λ i. search rules in
+    line_put c.requires b c.in-Insert.is c.row_of.ensures c.encode-row.ensures c.put_row.ensures
+
+pub returns-in-Delete : goal.returns-in-Delete
+returns-in-Delete c = line_struck c.requires c.in-Delete.is c.strike.ensures
