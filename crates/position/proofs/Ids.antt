@@ -6,8 +6,8 @@ use native.Mathlib.Numerals.{add-one}
 use native.Mathlib.Omega.{arith}
 use mathlib.Core.Path.{◌≡◌, refl, sym, ap, ◌∙◌, subst}
 use mathlib.Core.List.{List, [], ◌∷◌, ◌++◌, map, append_assoc}
-use lib.ListN.{length, take, drop, set, get_or, replicate, length-take, length-append, length-replicate, length-map, length-drop, get_or-replicate, take-append-drop, replicate-append-replicate}
-use lib.Seq.{drop-cons, ext_get_or, get_or-drop, get_or-take, take_at, set_at, append_snoc}
+use lib.ListN.{length, take, drop, set, get_or, replicate, length-take, length-append, length-replicate, length-map, length-drop, drop_of_length-le, get_or-replicate, take-append-drop, replicate-append-replicate}
+use lib.Seq.{drop-cons, ext_get_or, get_or-drop, get_or-take, take-suc, length-take-le, take_at, set_at, append_snoc}
 use Rattle.position.specs.declared.Identifier.{Identifier}
 use Rattle.position.specs.declared.Position.{Position}
 use Rattle.position.specs.Positions.{identifier, pad, ids_of, position_of}
@@ -53,6 +53,10 @@ pub rest_cons : (p : Position) (n : ℕ) → n < length (ids_of p) → drop n (i
 rest_cons p n h =
     rw (add-one n) (drop-cons (ids_of p) n pad h ∙ ap (λ (i : Identifier). i ∷ drop (suc n) (ids_of p)) (next_id p n h))
 
+-- and where nothing does
+pub rest_none : (p : Position) (n : ℕ) → length (ids_of p) ≤ n → drop n (ids_of p) ≡ []
+rest_none p n h = drop_of_length-le (ids_of p) h
+
 -- the first of the pads is written over
 pub next_written : (l : List Identifier) (i : Identifier) → length l < 8 → set (position_of l).ids (length l) i ≡ (position_of (l ++ (i ∷ []))).ids
 next_written l i h =
@@ -62,6 +66,16 @@ next_written l i h =
     rw (first, left)
     (set_at l pad (replicate (7 - length l) pad) i (length l) refl
     ∙ sym (append_snoc l i (replicate (7 - length l) pad)))
+
+-- the first m identifiers of p, and pads: one more is written
+pub filled_next : (p : Position) (m : ℕ) → m < 8 → length p.ids ≡ 8 → set (position_of (take m p.ids)).ids m (get_or p.ids m pad) ≡ (position_of (take (m + 1) p.ids)).ids
+filled_next p m h size =
+    let here : length (take m p.ids) ≡ m = length-take-le m p.ids (omega arith) in
+    let short : length (take m p.ids) < 8 = omega arith in
+    subst
+    (λ (k : ℕ). set (position_of (take m p.ids)).ids k (get_or p.ids m pad) ≡ (position_of (take (m + 1) p.ids)).ids) here
+    (next_written (take m p.ids) (get_or p.ids m pad) short
+    ∙ ap (λ (l : List Identifier). (position_of l).ids) (sym (take-suc p.ids m pad (omega arith)) ∙ ap (λ (k : ℕ). take k p.ids) (sym (add-one m))))
 
 -- one identifier more, where there is room
 list_extended : (l : List Identifier) (x s : ℕ) → length l < 8 → record { used = length l + 1; ids = set (position_of l).ids (length l) (identifier x s) } ≡ position_of (followed_by l x s)

@@ -90,6 +90,7 @@ impl Position {
     }
 
     // This front, then one identifier more.
+    #[tactic(auto, using(crate::proofs::Ids::extended))]
     fn followed_by(self, integer: u16, site: u8) -> Position
         requires { Front self }
         ensures { result ≡ position_of (followed_by (ids_of self) integer site) }

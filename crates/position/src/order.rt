@@ -23,6 +23,7 @@ pub fn compare(p: Position, q: Position) -> Order
 
 // How what remains of p from `at` on stands to what remains of q: it looks at the first identifiers
 // and, where these are equal, calls itself on the rest. A position that runs out first is the smaller.
+#[tactic(auto, using(crate::proofs::Ids::rest_cons, crate::proofs::Ids::rest_none), unfolding(crate::specs::Order::order_of))]
 fn compare_rest(p: Position, q: Position, at: usize) -> Order
     ensures { result ≡ order_of (drop at (ids_of p)) (drop at (ids_of q)) }
 {
@@ -45,6 +46,7 @@ fn compare_rest(p: Position, q: Position, at: usize) -> Order
 }
 
 // By integer, then by site.
+#[tactic(auto, unfolding(crate::specs::Order::identifier_order))]
 fn compare_identifiers(i: Identifier, j: Identifier) -> Order
     ensures { result ≡ identifier_order i j }
 {
@@ -56,6 +58,7 @@ fn compare_identifiers(i: Identifier, j: Identifier) -> Order
     }
 }
 
+#[tactic(auto, unfolding(crate::specs::Order::number_order))]
 fn compare_numbers(a: u16, b: u16) -> Order
     ensures { result ≡ number_order a b }
 {

@@ -46,6 +46,7 @@ pub fn place(p: Position, q: Position, site: u8, draw: u32) -> Placed
 }
 
 // The choice of x: of the c numbers from lo on, the one that the draw picks.
+#[tactic(auto, unfolding(crate::specs::Place::x_of))]
 fn x_of(lo: u32, c: u32, draw: u32) -> u16
     requires { (0 < c) × (lo + c ≤ 65536) }
     ensures { result ≡ x_of lo c draw }
@@ -55,6 +56,7 @@ fn x_of(lo: u32, c: u32, draw: u32) -> u16
 
 // The choice of what stands in front, numbered in the order of trying: P's first k identifiers. Which fronts
 // are tried is decided here alone, so both neighbours are at hand, though Q is not looked at.
+#[tactic(auto, unfolding(crate::specs::Place::front_at))]
 fn front_at(p: Position, q: Position, k: usize) -> Position
     requires { k < 8 }
     ensures { result ≡ position_of (front_at (ids_of p) (ids_of q) k) }
@@ -63,6 +65,7 @@ fn front_at(p: Position, q: Position, k: usize) -> Position
 }
 
 // The first n identifiers of p, continued by pads where p is shorter.
+#[tactic(auto, using(crate::proofs::Ids::filled_next, crate::proofs::Ids::front_filled))]
 fn padded(p: Position, n: usize) -> Position
     requires { n < 8 }
     ensures { result ≡ position_of (padded (ids_of p) n) }
@@ -80,6 +83,7 @@ fn padded(p: Position, n: usize) -> Position
 
 // The first x for which a candidate behind this front lies over the neighbour; a candidate that is
 // the neighbour itself counts as over it with `own` 0, and as not yet over it with `own` 1.
+#[tactic(auto, using(crate::proofs::Ids::position_ids), unfolding(crate::specs::Place::first_over))]
 fn first_over(own: u32, neighbour: Position, front: Position, site: u8) -> u32
     requires { (own ≤ 1) × Front front }
     ensures { (result ≡ first_over own (ids_of neighbour) (ids_of front) site) × (result ≤ 65536) }

@@ -1,4 +1,0 @@
-pub mod Answers
-pub mod Frame
-pub mod Lent
-pub mod Others
