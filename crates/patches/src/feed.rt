@@ -1,5 +1,5 @@
 // What the cases are written in: lines, and bytes in capital hexadecimal.
-ghost use Rattle.std.specs.Prelude.{◌≤◌, length};
+ghost use Rattle.std.specs.Prelude.{◌≡◌, ◌≤◌, length, take};
 
 // Where a byte stands next, from a place on; the end where it does not.
 pub fn next(bytes: &[u8], from: usize, byte: u8) -> usize
@@ -18,7 +18,7 @@ pub fn next(bytes: &[u8], from: usize, byte: u8) -> usize
 
 // The bytes that two digits each stand for, as many as there is room for.
 pub fn from_hex(digits: &[u8], bytes: &mut [u8]) -> usize
-    ensures { result ≤ length bytes.new }
+    ensures { (result ≤ length bytes.new) × (result ≡ length (take result bytes.new)) }
 {
     let mut n = 0;
     while n < bytes.len() {
