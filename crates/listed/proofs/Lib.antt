@@ -3,4 +3,5 @@ pub mod Cuts
 pub mod Decimal
 pub mod Feeding
 pub mod Longest
+pub mod Showing
 pub mod Widths

@@ -7,7 +7,6 @@
 // specs/Listing.antt; that it is never longer than LONGEST is proofs/Longest.antt.
 #![tactic(auto)]
 
-
 mod lines;
 mod output;
 
@@ -92,6 +91,7 @@ fn nobody() -> Replica {
 }
 
 // How many bytes the first patch takes; all, where they begin with none.
+#[tactic(auto, using(crate::proofs::Cuts::none_length, crate::proofs::Cuts::some_length))]
 fn first_in(bytes: &[u8]) -> usize
     ensures { result ≡ length (first_in bytes.now) }
 {

@@ -7,7 +7,6 @@
 // proofs/Tables.antt. Deciding soundness is the crate `sound`.
 #![tactic(auto)]
 
-
 pub mod row;
 pub mod table;
 

@@ -47,6 +47,7 @@ pub fn find(r: Replica, table: &[u8], place: Position) -> Found
 
 // Puts a row in at k: those from k on move up by one. Only the rows in use and the one behind them
 // are touched.
+#[tactic(auto, using(rows::proofs::Bytes::front_moved))]
 pub fn put_row(table: &mut [u8], rows: usize, k: usize, row: &[u8; ROW])
     requires { (length table.old ≡ table_size) × ((rows < 512) × (k ≤ rows)) }
     ensures { table.new ≡ within ((rows + 1) * row_size) (put_in (k * row_size) row.now) table.old }
@@ -56,6 +57,7 @@ pub fn put_row(table: &mut [u8], rows: usize, k: usize, row: &[u8; ROW])
 }
 
 // Takes row k out: those behind it move down by one, and the row freed is zero.
+#[tactic(auto, using(rows::proofs::Bytes::front_moved))]
 pub fn take_row(table: &mut [u8], rows: usize, k: usize)
     requires { (length table.old ≡ table_size) × ((rows ≤ 512) × (k ≤ rows)) }
     ensures { table.new ≡ within (rows * row_size) (take_out (k * row_size) row_size) table.old }

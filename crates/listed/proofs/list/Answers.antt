@@ -1,12 +1,5 @@
--- `list` meets its contract: too long an input is told to be, and else the lines of the patches stand
--- before those of the rows.
--- Assumes nothing.
-use Prim.Native.Nat.{ℕ, ◌<◌, ◌≤◌}
-use borrow.Author.Rules.{rules}
-use borrow.Author.Tests.{lt-ltb, le-ltb}
-use mathlib.Core.Path.{◌≡◌, ap, ◌∙◌}
-use mathlib.Core.List.{List}
-use lib.ListN.{length}
+-- Too long an input is told to be, and else the lines of the patches stand before those of the rows.
+use Rattle.std.proofs.Common.{◌≡◌, ℕ, ◌<◌, ◌≤◌, List, length, ap, ◌∙◌, lt-ltb, le-ltb}
 use Rattle.record.specs.declared.Replica.{Replica}
 use Rattle.script.specs.Lines.{decode_table}
 use Rattle.listed.specs.Output.{Output, behind}
@@ -14,8 +7,7 @@ use Rattle.listed.specs.Text.{ascii, rows_text}
 use Rattle.listed.specs.Listing.{most_input, fresh, after_all, lines_in, listing, report}
 use Rattle.listed.specs.Steps.{Feeds, outcomes_of, patch_lines}
 use Rattle.listed.proofs.Behind.{and_then}
-use Rattle.listed.proofs.list.Statement.{statement}
-use Rattle.listed.proofs.list.Tie as tie
+use Rattle.listed.proofs.list.Goals as goal
 
 -- more bytes than are listed
 too_long : (input : List ℕ) → most_input < length input → ascii "too long\n" ≡ listing input
@@ -34,22 +26,11 @@ reported {input} {r} {table} {was} {is} {then} fits feeds shown =
     rw (le-ltb most_input (length input) fits)
     (and_then patches rows was feeds.shown (shown ∙ ap (λ (text : List ℕ). behind text is) same))
 
-pub list-spec : {M : Type 1} → statement M
-list-spec =
-    tie.close
-    (tie.spec
-    (λ c. search rules)
-    (λ c κs. tt)
-    (λ c. search rules)
-    (λ c.
-    c.before.before.put.ensures
-    ∙ ap (λ (text : List ℕ). behind text (record { length = 0; bytes = c.before.before.before.before.before.before.before.before.args.out.now }))
-    (too_long _ c.before.before.before.before.before.if1.true))
-    (λ c. search rules)
-    (λ c κs. (c.before.before.if1.false, search rules))
-    (λ c. search rules)
-    (λ c κs. c.before.before.before.before.before.before.feed.ensures.sound)
-    (λ c. search rules)
-    (λ c.
-    let fed = c.before.before.before.before.before.before.before.before.before in
-    reported fed.before.before.before.if1.false fed.feed.ensures c.before.before.show-rows.ensures))
+pub returns-then-input-gt-MOST : goal.returns-then-input-gt-MOST
+returns-then-input-gt-MOST c =
+    c.put.ensures
+    ∙ ap (λ (text : List ℕ). behind text (record { length = 0; bytes = c.args.out.now }))
+    (too_long c.args.input.now c.if-input-gt-MOST.true)
+
+pub returns : goal.returns
+returns c = reported c.if-input-gt-MOST.false c.feed-fed.ensures c.show_rows.ensures

@@ -1,20 +1,15 @@
--- `put` meets its contract: behind the end there is no room; before it, as many bytes as there is room for are
--- copied to the front of the rest.
--- Assumes nothing.
-use Prim.Native.Nat.{ℕ, ◌+◌, ◌-◌, ◌≤◌, min}
-use native.Mathlib.Omega.{arith, min_cases}
-use borrow.Author.Rules.{rules}
+-- Behind the end there is no room; before it, as many bytes as there is room for are copied to the front of the
+-- rest.
+use Rattle.std.proofs.Common.{◌≡◌, ℕ, ◌+◌, ◌-◌, ◌≤◌, ◌++◌, List, length, take, drop, sym, ap, ◌∙◌, length-drop, min, arith}
+use native.Mathlib.Omega.{min_cases}
 use borrow.Rule.Slice.PartMut.{mid_of, put_mid}
-use mathlib.Core.Path.{◌≡◌, sym, ap, ◌∙◌}
-use mathlib.Core.List.{List, ◌++◌}
-use lib.ListN.{length, take, drop, length-take, length-drop, drop_of_length-le}
+use lib.ListN.{length-take, drop_of_length-le}
 use lib.Seq.{drop-drop}
 use Rattle.rows.specs.Rows.{written}
 use Rattle.rows.proofs.Bytes.{rest_lent, rest_back}
 use Rattle.listed.specs.Output.{behind}
 use Rattle.listed.proofs.Behind.{behind_end}
-use Rattle.listed.proofs.output.put.Statement.{statement}
-use Rattle.listed.proofs.output.put.Tie as tie
+use Rattle.listed.proofs.output.put.Goals as goal
 
 module _ (at : ℕ) (bytes s : List ℕ) (inside : at ≤ length s) where
   abbrev room : ℕ
@@ -46,27 +41,13 @@ module _ (at : ℕ) (bytes s : List ℕ) (inside : at ≤ length s) where
   copied_whole n part size e d =
       record { length = (size ∙ ap (λ (k : ℕ). at + k) (sym (length-take room bytes))) d; bytes = copied part e d }
 
-pub put_spec : {M : Type 1} → statement M
-put_spec =
-    tie.close
-    (tie.spec
-    (λ c.
-    let a = c.before.before.before.args in
-    behind_end a.bytes.now (record { length = a.at; bytes = a.out.now }) (omega arith))
-    (λ c. search rules)
-    (λ c. search rules)
-    (λ c. search rules)
-    (λ c. search rules)
-    (λ c κs. search rules)
-    (λ c. search rules)
-    (λ c. search rules)
-    (λ c. search rules)
-    (λ c.
-    let a = c.before.before.before.before.before.before.before.before.args in
-    let copy = c.before.before.before.copy-front in
-    copied_whole a.at a.bytes.now a.out.now (omega arith) _ copy.new.0 (omega arith) copy.ensures)
-    (λ c. search rules)
-    (λ c.
-    let a = c.before.before.before.before.before.before.before.before.args in
-    let copy = c.before.before.before.copy-front in
-    copied_whole a.at a.bytes.now a.out.now (omega arith) _ copy.new.0 (omega arith) copy.ensures))
+pub returns-then-out-at : goal.returns-then-out-at
+returns-then-out-at c = behind_end c.args.bytes.now _ (omega arith)
+
+pub returns-then-bytes-room : goal.returns-then-bytes-room
+returns-then-bytes-room c =
+    copied_whole c.args.at c.args.bytes.now c.args.out.now (omega arith) _ c.copy_front.new.s (omega arith) c.copy_front.ensures
+
+pub returns-else-bytes-room : goal.returns-else-bytes-room
+returns-else-bytes-room c =
+    copied_whole c.args.at c.args.bytes.now c.args.out.now (omega arith) _ c.copy_front.new.s (omega arith) c.copy_front.ensures
