@@ -1,5 +1,5 @@
 // The calls of a host program in C (01, 'What is built': "The scheduler is a host program in C and calls
-// these with numbers and byte slices"). `rt staticlib host` makes the archive that it links;
+// these with numbers and byte slices"). `host_c` exports them for the archive that it links;
 // include/script_replica.h declares these functions and says what each promises.
 //
 // Rests on `replica` and `edits` for the operations, on `record` for its 67 bytes and on `reader` for the first
@@ -10,7 +10,6 @@
 //
 // A record's bytes are called `state` here: `record` is a word of the proof language.
 #![tactic(auto)]
-
 
 mod lacks;
 
@@ -30,8 +29,7 @@ use replica::start::start;
 use script::table::text_start;
 
 // Starts a replica as this site, whatever stood in record and table.
-#[unsafe(no_mangle)]
-pub extern "C" fn replica_start(state: &mut [u8], table: &mut [u8], site: u32) -> u32
+pub fn replica_start(state: &mut [u8], table: &mut [u8], site: u32) -> u32
     ensures { record { answer = result; state = state.new; table = table.new } ≡ start_bytes state.old table.old site }
 {
     let was = read(state);
@@ -48,8 +46,7 @@ pub extern "C" fn replica_start(state: &mut [u8], table: &mut [u8], site: u32) -
 
 // Inserts a line with this text before a row. The patch is written at the front of `patch`, and its length
 // into `written`.
-#[unsafe(no_mangle)]
-pub extern "C" fn replica_insert(
+pub fn replica_insert(
     state: &mut [u8],
     table: &mut [u8],
     row: usize,
@@ -68,8 +65,7 @@ pub extern "C" fn replica_insert(
 }
 
 // Deletes the line of a row. The patch is written at the front of `patch`, and its length into `written`.
-#[unsafe(no_mangle)]
-pub extern "C" fn replica_delete(
+pub fn replica_delete(
     state: &mut [u8],
     table: &mut [u8],
     row: usize,
@@ -86,8 +82,7 @@ pub extern "C" fn replica_delete(
 }
 
 // Receives a patch.
-#[unsafe(no_mangle)]
-pub extern "C" fn replica_receive(state: &mut [u8], table: &mut [u8], patch: &[u8]) -> u32
+pub fn replica_receive(state: &mut [u8], table: &mut [u8], patch: &[u8]) -> u32
     ensures { record { answer = result; state = state.new; table = table.new } ≡ receive_bytes state.old table.old patch.now }
 {
     let done = receive(read(state), table, patch);
@@ -97,8 +92,7 @@ pub extern "C" fn replica_receive(state: &mut [u8], table: &mut [u8], patch: &[u
 }
 
 // Where in the table the text of a row stands: its first byte and its length, or two zeros.
-#[unsafe(no_mangle)]
-pub extern "C" fn replica_row_text(
+pub fn replica_row_text(
     state: &[u8],
     table: &[u8],
     row: usize,
@@ -120,8 +114,7 @@ pub extern "C" fn replica_row_text(
 
 // Compares two sets of sixteen counts, 64 bytes each, and writes for each site which side has more, and the
 // first and last number that the other side lacks.
-#[unsafe(no_mangle)]
-pub extern "C" fn replica_compare(first: &[u8], second: &[u8], res: &mut [u8]) -> u32
+pub fn replica_compare(first: &[u8], second: &[u8], res: &mut [u8]) -> u32
     ensures { record { answer = result; result = res.new } ≡ compare_bytes first.now second.now res.old }
 {
     if first.len() != COUNTS {
@@ -142,8 +135,7 @@ pub extern "C" fn replica_compare(first: &[u8], second: &[u8], res: &mut [u8]) -
 }
 
 // How many bytes the first patch of a run takes: so a host can keep patches one behind the other.
-#[unsafe(no_mangle)]
-pub extern "C" fn replica_patch_first(bytes: &[u8], used: &mut usize) -> u32
+pub fn replica_patch_first(bytes: &[u8], used: &mut usize) -> u32
     ensures { record { answer = result; used = used.new } ≡ first_patch bytes.now }
 {
     let first = read_first(bytes);

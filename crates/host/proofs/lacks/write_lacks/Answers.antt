@@ -1,7 +1,7 @@
--- `write_lacks` meets its contract. The loop's invariant: what is lacked of the sites passed is written. The
--- measure is how many are left.
+-- `write_lacks` meets its contract: the three numbers of each site stand one behind the other, and so do
+-- the sites.
 -- Assumes nothing.
-use Prim.Native.Nat.{ℕ, ◌+◌, ◌-◌, ◌*◌, ◌≤◌}
+use Prim.Native.Nat.{ℕ, ◌+◌, ◌*◌, ◌≤◌}
 use native.Mathlib.Omega.{arith}
 use mathlib.Core.Path.{◌≡◌, ap, ◌∙◌}
 use mathlib.Core.List.{List, ◌++◌, append_assoc}
@@ -15,8 +15,7 @@ use Rattle.rows.proofs.Slots.{flat_length}
 use Rattle.replica.specs.declared.compare.Lack.{Lack}
 use Rattle.replica.specs.Compare.{no_lack}
 use Rattle.host.specs.Calls.{lacks_size, lack_bytes}
-use Rattle.host.proofs.lacks.write_lacks.Statement.{statement}
-use Rattle.host.proofs.lacks.write_lacks.Tie as tie
+use Rattle.host.proofs.lacks.write_lacks.Goals as goal
 
 lack_length : (l : Lack) → length (lack_bytes l) ≡ 9
 unfolding lack_bytes
@@ -52,42 +51,24 @@ all_lacks sites i s end size long =
     let bytes : length (flat lack_bytes sites) ≡ length sites * 9 = flat_length lack_bytes 9 lack_length sites in
     rw all (all_written (flat lack_bytes sites) s (omega arith))
 
-pub write-lacks-spec : {M : Type 1} → statement M
+pub loop-i-init : goal.loop-i-init
 unfolding flat
-write-lacks-spec =
-    tie.close
-    (tie.spec
-    (λ result₀ sites i₀ result i. (i ≤ 16) × (length result ≡ 144) × (result ≡ written 0 (flat lack_bytes (take i sites)) result₀))
-    (λ result₀ sites i₀ result i. 16 - i)
-    (λ c. (omega arith, omega arith, nothing_written 0 c.before.args.res.now))
-    (λ c. omega arith)
-    (λ c. omega arith)
-    (λ c. omega arith)
-    (λ c κs. omega arith)
-    (λ c. omega arith)
-    (λ c κs. omega arith)
-    (λ c. omega arith)
-    (λ c κs. omega arith)
-    (λ c. omega arith)
-    (λ c. omega arith)
-    (λ c.
-    let third = c.before.before in
-    let second = third.before.before.before.before in
-    let first = second.before.before.before.before in
-    let at = first.before.before.before.before.loop in
-    let start = first.before.before.before.before.before.before in
-    let a = start.args in
-    let lack = get_or a.t1 at.i no_lack in (
-      omega arith,
-      omega arith,
-      third.put-42.ensures
+loop-i-init c = record { inside = omega arith; long = c.requires; wrote = nothing_written 0 c.args.res.now }
+
+pub loop-i-preserved : goal.loop-i-preserved
+loop-i-preserved c =
+    let at = c.loop-i in
+    let lack = get_or c.args.sites at.i no_lack in
+    record {
+      inside = omega arith;
+      long = omega arith;
+      wrote = c.put_4-in-loop-i.ensures
           ∙ ap (written (at.i * 9 + 5) (bytes_of 4 lack.last))
-          (second.put_4.ensures ∙ ap (written (at.i * 9 + 1) (bytes_of 4 lack.first)) first.put_1.ensures)
-          ∙ lack_written lack (at.i * 9) at.result (omega arith)
-          ∙ lack_more a.t1 at.i a.result.now at.result (omega arith) (omega (arith, start)) (omega arith) at.invariant.2,
-    ))
-    (λ c. omega arith)
-    (λ c.
-    let a = c.before.before.before.args in
-    let at = c.before.loop in
-    at.invariant.2 ∙ all_lacks a.t1 at.i a.result.now (omega arith) (omega arith) (omega arith)))
+          (c.put_4.ensures ∙ ap (written (at.i * 9 + 1) (bytes_of 4 lack.first)) c.put_1.ensures)
+          ∙ lack_written lack (at.i * 9) at.res (omega arith)
+          ∙ lack_more c.args.sites at.i c.args.res.now at.res (omega arith) (omega arith) (omega arith) at.invariant.wrote;
+    }
+
+pub returns : goal.returns
+returns c =
+    c.loop-i.invariant.wrote ∙ all_lacks c.args.sites c.loop-i.i c.args.res.now (omega arith) (omega arith) c.requires

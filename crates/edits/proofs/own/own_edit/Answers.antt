@@ -2,7 +2,6 @@
 -- what it does is the edit.
 -- Assumes nothing.
 use Prim.Native.Nat.{ℕ, ◌≤◌}
-use borrow.Author.Rules.{rules}
 use mathlib.Core.Path.{◌≡◌}
 use mathlib.Core.List.{List}
 use lib.ListN.{length}
@@ -16,8 +15,7 @@ use Rattle.writer.proofs.Writes.{written_done}
 use Rattle.effect.specs.Held.{Outcome}
 use Rattle.effect.specs.Effect.{done_answer, done_by}
 use Rattle.edits.specs.Own.{OwnOutcome, own_edit}
-use Rattle.edits.proofs.own.own_edit.Statement.{statement}
-use Rattle.edits.proofs.own.own_edit.Tie as tie
+use Rattle.edits.proofs.own.own_edit.Goals as goal
 
 -- what is written and what is done, put together
 both_done : (r : Replica) (table buffer : List ℕ) (p : Patch) (text : List ℕ) (w : Writing) (o : Outcome)
@@ -30,17 +28,7 @@ both_done : (r : Replica) (table buffer : List ℕ) (p : Patch) (text : List ℕ
 unfolding own_edit
 both_done r table buffer p text w o room good none e f = rw (e, f, written_done p text buffer room good, none)
 
-pub own-edit-spec : {M : Type 1} → statement M
-own-edit-spec =
-    tie.close
-    (tie.spec
-    (λ c κs. tt)
-    (λ c κs. search rules)
-    (λ c. search rules)
-    (λ c. search rules)
-    (λ c.
-    let done = c.before.before.before in
-    let wrote = done.before.before.before.before in
-    let start = wrote.before.before.before.before in
-    both_done _ _ _ _ _ _ _ start.requires.1.0 start.requires.0.takes.patch start.requires.1.1
-    wrote.write.ensures done.apply.ensures))
+pub returns : goal.returns
+returns c =
+    both_done _ _ _ _ _ _ _ c.requires.1.0 c.requires.0.takes.patch c.requires.1.1 c.write-written.ensures
+    c.apply-done.ensures
