@@ -5,4 +5,3 @@
 // over the bytes of records, tables and patches. What holds after any calls is specs/Condition3.antt, and that
 // it does is `condition_3`, proofs/Concluded.antt. docs/CONVERGENCE.md puts it in words.
 #![tactic(auto)]
-

@@ -34,6 +34,7 @@ pub struct Replica {
 
 // Reads the record of 67 bytes. Bytes of any other length give the record of no host, site 0, which
 // is never sound.
+#[tactic(auto, unfolding(crate::specs::Records::record_read, crate::specs::Records::record_of))]
 pub fn read(s: &[u8]) -> Replica
     ensures { result ≡ record_read s.now }
 {
@@ -50,6 +51,7 @@ pub fn read(s: &[u8]) -> Replica
 }
 
 // Writes the record over 67 bytes. A slice of any other length stays as it was.
+#[tactic(auto, unfolding(crate::specs::Records::record_written))]
 pub fn write(r: Replica, s: &mut [u8])
     ensures { s.new ≡ record_written r s.old }
 {

@@ -7,6 +7,5 @@
 // specs/Rows.antt; that rows then stand as the list of their elements does is proofs/Moved.antt.
 #![tactic(auto)]
 
-
 pub mod moves;
 pub mod numbers;

@@ -7,6 +7,7 @@ ghost use Rattle.rows.specs.Rows.{filled, put_in, take_out, AllZero};
 
 // Puts bytes in at a place: what stood from there on moves up, and as many bytes fall off the end.
 // A place behind the end changes nothing.
+#[tactic(auto, unfolding(crate::specs::Rows::put_in))]
 pub fn put_in(s: &mut [u8], at: usize, bytes: &[u8])
     ensures { s.new ≡ put_in at bytes.now s.old }
 {
@@ -17,6 +18,7 @@ pub fn put_in(s: &mut [u8], at: usize, bytes: &[u8])
 
 // Takes n bytes out at a place: what stood behind them moves down, and what is freed is zero.
 // A place behind the end changes nothing.
+#[tactic(auto, unfolding(crate::specs::Rows::take_out, crate::specs::Rows::filled))]
 pub fn take_out(s: &mut [u8], at: usize, n: usize)
     ensures { s.new ≡ take_out at n s.old }
 {

@@ -6,6 +6,7 @@ ghost use Rattle.rows.specs.Numbers.{num_at, bytes_of};
 ghost use Rattle.rows.specs.Rows.{written};
 
 // The number of 2 bytes at a place.
+#[tactic(auto, unfolding(crate::specs::Numbers::num_at))]
 pub fn number_2(s: &[u8], at: usize) -> u16
     requires { at + 2 ≤ length s.now }
     ensures { result ≡ num_at 2 s.now at }
@@ -15,6 +16,7 @@ pub fn number_2(s: &[u8], at: usize) -> u16
 
 // The number of 4 bytes at a place. One expression: the machine then reads it as one word, and not if
 // it is put together from two numbers of 2 bytes.
+#[tactic(auto, unfolding(crate::specs::Numbers::num_at))]
 pub fn number_4(s: &[u8], at: usize) -> u32
     requires { at + 4 ≤ length s.now }
     ensures { result ≡ num_at 4 s.now at }
@@ -34,6 +36,7 @@ pub fn number_8(s: &[u8], at: usize) -> u64
 }
 
 // Writes a number over the byte at a place.
+#[tactic(auto, using(crate::proofs::Bytes::byte_written))]
 pub fn put_1(s: &mut [u8], at: usize, v: u8)
     requires { at + 1 ≤ length s.old }
     ensures { s.new ≡ written at (bytes_of 1 v) s.old }
