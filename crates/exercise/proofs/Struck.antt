@@ -19,7 +19,7 @@ use Rattle.script.specs.declared.table.Found.{Found}
 use Rattle.script.specs.Lines.{Line, no_line}
 use Rattle.script.specs.Find.{find_in}
 use Rattle.script.proofs.Finding.{place_at, Told, in_row, in_gap, told, rising_far}
-use Rattle.effect.specs.Effect.{numbered, line_row, without, strike, struck_answer}
+use Rattle.effect.specs.Effect.{numbered, line_row, without, struck_answer}
 use Rattle.exercise.proofs.Members.{mem_at, at_mem, left_at, still_in}
 
 module _ (lines : List Line) (rising : (i : ℕ) → suc i < length lines → place_at lines i ≺ place_at lines (suc i)) where
