@@ -1,17 +1,17 @@
 -- The identifiers of a place that fits: as many as are used, where they stand, each proper, and pads
 -- behind them.
 -- Assumes nothing.
-use Prim.Native.Nat.{ℕ, ◌≤◌, ◌<◌}
+use Prim.Native.Nat.{ℕ, ◌-◌, ◌≤◌, ◌<◌}
 use native.Mathlib.Decide.{dec_lt}
 use native.Mathlib.Omega.{arith}
-use mathlib.Core.Path.{◌≡◌, sym, subst, ◌∙◌}
+use mathlib.Core.Path.{◌≡◌, sym, ap, subst, ◌∙◌}
 use mathlib.Core.Logic.{by_cases}
 use lib.Dec.{ltb}
 use lib.ListN.{length, get_or}
 use borrow.Author.Tests.{lt-ltb, le-ltb}
 use Rattle.position.specs.declared.Identifier.{Identifier}
 use Rattle.position.specs.declared.Position.{Position}
-use Rattle.position.specs.Positions.{pad, ids_of, Proper}
+use Rattle.position.specs.Positions.{pad, ids_of, last_of, Proper}
 use Rattle.position.proofs.Ids.{ids_length, next_id}
 use Rattle.format.specs.Steps.{SlotFits, PlaceFits}
 
@@ -32,6 +32,15 @@ module _ (p : Position) (fits : PlaceFits p) where
   -- each stands at its place
   pub id_at : (k : ℕ) → k < p.used → get_or (ids_of p) k pad ≡ get_or p.ids k pad
   id_at k used = next_id p k (omega (arith, ids_used))
+
+  -- the first at the front
+  pub first_at : get_or (ids_of p) 0 pad ≡ get_or p.ids 0 pad
+  first_at = id_at 0 fits.least
+
+  -- the last before what is unused
+  pub last_at : last_of (ids_of p) ≡ get_or p.ids (p.used - 1) pad
+  last_at =
+      ap (λ (n : ℕ). get_or (ids_of p) (n - 1) pad) ids_used ∙ id_at (p.used - 1) (omega (arith, fits.least))
 
   -- what is used is proper
   pub used_proper : (k : ℕ) → k < p.used → Proper (get_or p.ids k pad)

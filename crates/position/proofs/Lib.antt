@@ -7,3 +7,4 @@ pub mod Line
 pub mod Made
 pub mod Ordered
 pub mod Rooms
+pub mod Tags

@@ -12,8 +12,7 @@ ghost use Rattle.position.specs.Place.{Front, front_at, x_of, next_integer, firs
 use crate::Position;
 use crate::order::{Order, compare};
 
-// The place made; where there is none, no identifier at all. (A struct and no enum: an enum that
-// holds an array is not covered.)
+// The place made; where there is none, no identifier at all.
 #[derive(Clone, Copy)]
 pub struct Placed {
     pub made: bool,
