@@ -22,21 +22,15 @@ pub extern "C" fn bench_sound(record: &[u8], table: &[u8]) -> bool {
 // Puts a row in at row 0 of a table with these rows in use, at most 511.
 #[unsafe(no_mangle)]
 pub extern "C" fn bench_row_in(table: &mut [u8], rows: usize, row: &[u8; ROW]) {
-    if table.len() == TABLE {
-        if rows < ROWS {
-            put_row(table, rows, 0, row);
-        }
+    if table.len() == TABLE && rows < ROWS {
+        put_row(table, rows, 0, row);
     }
 }
 
 // Takes row 0 out of a table with these rows in use, 1 to 512.
 #[unsafe(no_mangle)]
 pub extern "C" fn bench_row_out(table: &mut [u8], rows: usize) {
-    if table.len() == TABLE {
-        if rows <= ROWS {
-            if 0 < rows {
-                take_row(table, rows, 0);
-            }
-        }
+    if table.len() == TABLE && (1..=ROWS).contains(&rows) {
+        take_row(table, rows, 0);
     }
 }

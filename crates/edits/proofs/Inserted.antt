@@ -24,13 +24,13 @@ use Rattle.effect.specs.Held.{Held, held_in}
 use Rattle.effect.specs.Effect.{put, edited, effect, done_answer}
 use Rattle.replica.specs.Grounds.{own_count}
 use Rattle.edits.specs.Own.{OwnOutcome, untouched, own_patch, own_edit}
-use Rattle.edits.specs.Insert.{place_before, insert_checks, insert_call}
+use Rattle.edits.specs.Insert.{place_before, position_made, insert_checks, insert_call}
 use Rattle.edits.proofs.OwnAccepted.{Inserts, insert_accepted}
 use Rattle.edits.proofs.OwnDone.{OwnDone, own_sound, own_done}
 
 module _ (r : Replica) (table : List ℕ) (row draw : ℕ) (text buffer : List ℕ) (size : length r.counts ≡ 16) where
   abbrev place : Position
-  place = (place_before r table row draw).place
+  place = position_made (place_before r table row draw)
 
   abbrev p : Patch
   p = own_patch r place (Insert (length text))

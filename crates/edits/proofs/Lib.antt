@@ -1,3 +1,4 @@
+pub mod Beside
 pub mod Deleted
 pub mod Inserted
 pub mod Neighbours
@@ -5,4 +6,4 @@ pub mod NewPlace
 pub mod OwnAccepted
 pub mod OwnDone
 pub mod OwnPatch
-pub mod Untouched
+pub mod Told

@@ -2,25 +2,25 @@
 -- end; among sound lines each is a neighbour that a new place may have.
 -- Assumes nothing.
 use Prim.Native.Nat.{ℕ, zero, suc, ◌-◌, ◌≤◌, ◌<◌}
-use native.Mathlib.Nat.{le_of_suc-le-suc}
 use native.Mathlib.Decide.{dec_lt}
 use native.Mathlib.Omega.{arith}
-use mathlib.Core.Path.{◌≡◌, refl}
+use mathlib.Core.Path.{◌≡◌, refl, sym, ap, ◌∙◌}
 use mathlib.Core.Logic.{by_cases}
-use mathlib.Core.List.{List, [], ◌∷◌}
+use mathlib.Core.List.{List}
 use lib.ListN.{length, get_or, length-map, get_or-eq_default}
+use Rattle.std.proofs.lemmas.List.{get_or-map}
 use Rattle.position.specs.declared.Identifier.{Identifier}
-use Rattle.position.specs.Positions.{begin, end, Neighbour, a_line, the_begin, the_end}
-use Rattle.script.specs.Lines.{Line}
+use Rattle.position.specs.Positions.{begin, end, position_of, Neighbour, a_line, the_begin, the_end}
+use Rattle.script.specs.Lines.{Line, no_line, identifiers_of, decode_table}
 use Rattle.script.proofs.Finding.{place_at}
 use Rattle.script.proofs.Held.{SoundLines}
+use Rattle.script.proofs.Lent.{lent_row, row_read}
+use Rattle.script.proofs.Tables.{lines_length}
 use Rattle.edits.specs.Insert.{positions_of, left_of, right_of}
 
 position_at : (lines : List Line) (i : ℕ) (d : List Identifier) → i < length lines
     → get_or (positions_of lines) i d ≡ place_at lines i
-position_at [] i d h = absurd (omega arith)
-position_at (l ∷ lines) zero d h = refl
-position_at (l ∷ lines) (suc i) d h = position_at lines i d (le_of_suc-le-suc h)
+position_at lines i d h = get_or-map (λ (l : Line). l.position) lines i no_line d h
 
 module _ (lines : List Line) where
   -- behind the first place: the line of the row before
@@ -51,3 +51,19 @@ module _ (lines : List Line) where
         by_cases (dec_lt row (length lines))
         (λ h. line_neighbour row (right_of lines row) h (right_line row h))
         (λ h. the_end (right_end row (omega arith)))
+
+-- as they are read in the table of n rows
+module _ (n row : ℕ) (t : List ℕ) where
+  pub left_read : 1 ≤ row → row ≤ n
+      → position_of (identifiers_of (lent_row t (row - 1))) ≡ position_of (left_of (decode_table n t) row)
+  left_read from to =
+      ap position_of
+      (row_read n (row - 1) t (omega arith) ∙ sym (left_line (decode_table n t) row from (omega (arith, lines_length n t))))
+
+  pub right_read : row < n → position_of (identifiers_of (lent_row t row)) ≡ position_of (right_of (decode_table n t) row)
+  right_read h =
+      ap position_of
+      (row_read n row t h ∙ sym (right_line (decode_table n t) row (omega (arith, lines_length n t))))
+
+  pub right_none : n ≤ row → position_of end ≡ position_of (right_of (decode_table n t) row)
+  right_none h = ap position_of (sym (right_end (decode_table n t) row (omega (arith, lines_length n t))))

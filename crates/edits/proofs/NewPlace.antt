@@ -3,11 +3,12 @@
 -- Assumes nothing.
 use Prim.Native.Nat.{ℕ, ◌-◌, ◌≤◌}
 use native.Mathlib.Omega.{arith}
-use mathlib.Core.Path.{◌≡◌, refl, sym, subst}
-use mathlib.Core.Bool.{true, true≢false}
+use mathlib.Core.Path.{◌≡◌, refl, subst}
+use mathlib.Core.Bool.{false, true≢false}
 use mathlib.Core.Option.{Option, none, some}
 use mathlib.Core.List.{List}
 use lib.ListN.{length}
+use Rattle.std.specs.Prelude.{is_none}
 use Rattle.position.specs.declared.Identifier.{Identifier}
 use Rattle.position.specs.declared.Position.{Position}
 use Rattle.position.specs.Positions.{position_of, author_of, LinePosition}
@@ -24,7 +25,7 @@ use Rattle.script.specs.Find.{find_in}
 use Rattle.script.proofs.Finding.{place_at, found_gap, under_below}
 use Rattle.script.proofs.Held.{SoundLines, sound_lines}
 use Rattle.script.proofs.Tables.{lines_length}
-use Rattle.edits.specs.Insert.{left_of, right_of, place_before}
+use Rattle.edits.specs.Insert.{left_of, right_of, place_before, position_made}
 use Rattle.edits.proofs.Neighbours.{left_line, right_line, left_neighbour, right_neighbour}
 
 -- what stands between the neighbours of a place before a row would stand in that row
@@ -50,8 +51,8 @@ module _ (r : Replica) (table : List ℕ) (row draw : ℕ) (sound : Sound r tabl
   lines = decode_table r.rows table
 
   by_place : (o : Option (List Identifier)) → place_of (left_of lines row) (right_of lines row) r.site draw ≡ o
-      → (placed o).made ≡ true → NewPlace r table row (placed o).place
-  by_place none e wrong = absurd (true≢false (sym wrong))
+      → is_none (placed o) ≡ false → NewPlace r table row (position_made (placed o))
+  by_place none e wrong = absurd (true≢false wrong)
   by_place (some l) e made =
       let held = sound_lines r table sound in
       let inside : row ≤ length lines = omega (arith, lines_length r.rows table) in
@@ -67,6 +68,7 @@ module _ (r : Replica) (table : List ℕ) (row draw : ℕ) (sound : Sound r tabl
         gap = between_gap r.counts lines held row inside l between.0 between.1;
       }
 
-  pub new_place : (place_before r table row draw).made ≡ true → NewPlace r table row (place_before r table row draw).place
+  pub new_place : is_none (place_before r table row draw) ≡ false
+      → NewPlace r table row (position_made (place_before r table row draw))
   unfolding place_before
   new_place = by_place (place_of (left_of lines row) (right_of lines row) r.site draw) refl

@@ -6,7 +6,7 @@ use native.Mathlib.Omega.{arith}
 use mathlib.Core.Path.{◌≡◌, sym, subst}
 use mathlib.Core.Bool.{false}
 use mathlib.Core.List.{List}
-use borrow.Author.Tests.{ltb-false, leb-false, eqb-false, not-false}
+use borrow.Author.Tests.{ltb-false, leb-false, eqb-false}
 use lib.ListN.{length, replicate}
 use Rattle.position.specs.declared.Position.{Position}
 use Rattle.position.specs.Positions.{position_of}
@@ -24,7 +24,7 @@ use Rattle.effect.specs.Effect.{is_row, Takes}
 use Rattle.replica.specs.Grounds.{own_count}
 use Rattle.replica.proofs.Tests.{passed_is}
 use Rattle.edits.specs.Own.{own_patch}
-use Rattle.edits.specs.Insert.{place_before, insert_checks}
+use Rattle.edits.specs.Insert.{place_before, position_made, insert_checks}
 use Rattle.edits.specs.Delete.{delete_checks}
 use Rattle.edits.proofs.NewPlace.{NewPlace, new_place}
 use Rattle.edits.proofs.OwnPatch.{insert_takes, delete_takes}
@@ -49,13 +49,13 @@ module _ (r : Replica) (table : List ℕ) (size : length r.counts ≡ 16) (row :
 
   pub insert_accepted : (draw : ℕ) (text : List ℕ)
       → Passed (insert_checks r table row text buffer (place_before r table row draw))
-      → Inserts text (place_before r table row draw).place
+      → Inserts text (position_made (place_before r table row draw))
   unfolding insert_checks
   insert_accepted draw text (soundly, (room, (inside, (short, (left, (unused, (made, (free, _)))))))) =
       let sound : Sound r table = passed_is (sound? r table) soundly in
       let within : row ≤ r.rows = ltb-false r.rows row inside in
       let most : length text ≤ 48 = ltb-false 48 (length text) short in
-      let new = new_place r table row draw sound within (not-false (place_before r table row draw).made made) in
+      let new = new_place r table row draw sound within made in
       let rows_left : r.rows < 512 = omega (arith, eqb-false r.rows 512 left, sound.own.rows) in
       let below = unspent sound (eqb-false (own_count r) 1000000 unused) in
       let nowhere : is_row (find_in new.ids (decode_table r.rows table)) ≡ false = rw new.gap in

@@ -1,15 +1,15 @@
 -- The patch of an own edit is one that the replica takes: it is well-formed, its author's next and not
 -- early; and an insert at a place that no row has finds room.
 -- Assumes nothing.
-use Prim.Native.Nat.{ℕ, ◌+◌, ◌-◌, ◌≤◌, ◌<◌}
+use Prim.Native.Nat.{ℕ, ◌≤◌, ◌<◌}
 use native.Mathlib.Omega.{arith}
 use mathlib.Core.Path.{◌≡◌, refl, sym, ap, ◌∙◌, subst}
 use mathlib.Core.Bool.{true, false, true≢false}
 use mathlib.Core.List.{List}
-use lib.ListN.{length, get_or, replicate, length-append, length-replicate, get_or-replicate}
-use lib.Seq.{get_or-append-add}
+use lib.ListN.{length, replicate, length-append, length-replicate, get_or-replicate}
+use Rattle.std.proofs.lemmas.Grind.{common_steps}
 use Rattle.position.specs.declared.Identifier.{Identifier}
-use Rattle.position.specs.Positions.{pad, position_of, author_of, LinePosition}
+use Rattle.position.specs.Positions.{position_of, author_of, LinePosition}
 use Rattle.position.proofs.Ids.{position_ids}
 use Rattle.position.proofs.Authors.{author_least}
 use Rattle.rows.specs.Rows.{filled}
@@ -28,13 +28,6 @@ use Rattle.effect.specs.Effect.{is_row, inserts, Takes}
 use Rattle.replica.specs.Grounds.{own_count}
 use Rattle.edits.specs.Own.{own_patch}
 
--- behind the identifiers of a list's value stand pads
-pads_behind : (l : List Identifier) (j : ℕ) → length l ≤ j → j < 8 → get_or (position_of l).ids j pad ≡ pad
-pads_behind l j from below =
-    let there : length l + (j - length l) ≡ j = omega arith in
-    subst (λ (k : ℕ). get_or (position_of l).ids k pad ≡ pad) there
-    (get_or-append-add l (replicate (8 - length l) pad) (j - length l) pad ∙ get_or-replicate (8 - length l) (j - length l) pad pad (omega arith))
-
 -- a place that is a line's position, in the one value of its list
 module _ (r : Replica) (table : List ℕ) (size : length r.counts ≡ 16) (sound : Sound r table)
     (left : own_count r < 1000000) (l : List Identifier) (place : LinePosition l) where
@@ -52,7 +45,7 @@ module _ (r : Replica) (table : List ℕ) (size : length r.counts ≡ 16) (sound
         place = rw (position_ids l) place;
         used = place.most;
         identifiers = rw (length-append, length-replicate) (omega (arith, place.most));
-        unused = pads_behind l;
+        unused = λ j from below. grind (arith, common_steps);
         line = line;
         edit = agrees;
       }

@@ -1,16 +1,19 @@
 -- Own edits (01, 'Answer numbers'): what insert and delete alike refuse, the patch that one makes, and what
 -- it leaves.
 -- Assumes nothing.
-use Rattle.std.specs.Prelude.{ℕ, suc, Bool, List, eqb, ltb, length}
+use Rattle.std.specs.Prelude.{ℕ, suc, Bool, List, eqb, ltb, length, Result, Ok, Err}
 use Rattle.position.specs.declared.Position.{Position}
 use Rattle.rows.specs.Rows.{written}
 use Rattle.record.specs.declared.Replica.{Replica}
 use Rattle.format.specs.declared.Edit.{Edit}
 use Rattle.format.specs.declared.Patch.{Patch}
+use Rattle.format.specs.declared.answers.Refusal.{Refusal}
+use Rattle.format.specs.Answers.{refusal_number}
 use Rattle.format.specs.Patches.{most_size, patch_bytes}
 use Rattle.effect.specs.Held.{Held, held_in, record_holding, table_holding}
 use Rattle.effect.specs.Effect.{effect}
 use Rattle.replica.specs.Grounds.{own_count}
+use Rattle.edits.specs.declared.Edited.{Edited}
 
 -- what an own edit answers, and what record and table, the patch's length and the buffer then are
 pub record OwnOutcome : Type 0 where
@@ -50,3 +53,9 @@ own_edit r table buffer p text =
       length = length bytes;
       buffer = written 0 bytes buffer;
     }
+
+-- what an own edit came to, with the table and the buffer that it leaves, as 01's number, record and length: refused,
+-- the record is as it was, and the length 0
+abbrev pub own_outcome : Replica → Result Edited Refusal → List ℕ → List ℕ → OwnOutcome
+own_outcome r (Ok done) table buffer = record { answer = 0; replica = done.replica; table = table; length = done.length; buffer = buffer }
+own_outcome r (Err why) table buffer = untouched r table buffer (refusal_number why)

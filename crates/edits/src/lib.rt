@@ -16,10 +16,9 @@ pub mod delete;
 pub mod insert;
 mod own;
 
-// The record after an own edit, the answer, and the length of the patch written: 0 where it is refused.
-#[derive(Clone, Copy)]
+// The record after an own edit, and the length of the patch written.
+#[derive(Clone, Copy, Debug)]
 pub struct Edited {
     pub replica: Replica,
-    pub answer: u32,
     pub length: usize,
 }

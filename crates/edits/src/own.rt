@@ -5,36 +5,28 @@ ghost use Rattle.format.specs.Patches.{most_size};
 ghost use Rattle.effect.specs.Effect.{done_answer};
 ghost use Rattle.effect.specs.Steps.{Ready};
 ghost use Rattle.replica.specs.Grounds.{own_count};
-ghost use Rattle.edits.specs.Own.{own_patch, own_edit};
+ghost use Rattle.edits.specs.Own.{own_patch, own_edit, own_outcome};
 
 use crate::Edited;
 use effect::apply;
 use format::{Edit, Patch, TEXT};
 use position::Position;
+use record::site::Site;
 use record::{Replica, count_of};
 use script::table::Found;
 use writer::write;
 
-// Refused: the record as it was.
-pub fn refused(r: Replica, answer: u32) -> Edited
-    ensures { result ≡ record { replica = r; answer = answer; length = 0 } }
-{
-    Edited {
-        replica: r,
-        answer,
-        length: 0,
-    }
-}
-
-// The patch of an own edit: the next of this site, after all that it has received.
+// The patch of an own edit: the next of this site, after all that it has received. It asks for the range of the record's
+// own site, since a `Site` beside the record would be a second own site.
 pub fn own_patch(r: Replica, place: Position, edit: Edit) -> Patch
     requires { (1 ≤ r.site) × ((r.site ≤ 16) × (own_count r < 1000000)) }
     ensures { result ≡ own_patch r place edit }
 {
+    let own = Site { number: r.site };
     let counts = r.counts;
     Patch {
         author: r.site,
-        number: count_of(counts, r.site) + 1,
+        number: count_of(counts, own) + 1,
         before: counts,
         place,
         edit,
@@ -42,6 +34,7 @@ pub fn own_patch(r: Replica, place: Position, edit: Edit) -> Patch
 }
 
 // Writes an own patch, and does what it does.
+#[tactic(auto, using(writer::proofs::Writes::written_done, crate::proofs::Told::done_ok), unfolding(crate::specs::Own::own_edit))]
 pub fn own_edit(
     r: Replica,
     table: &mut [u8],
@@ -51,15 +44,13 @@ pub fn own_edit(
     buffer: &mut [u8],
 ) -> Edited
     requires { Ready r table.old p text.now found × ((most_size ≤ length buffer.old) × (done_answer p p.edit (decode_table r.rows table.old) ≡ 0)) }
-    ensures { record { answer = result.answer; replica = result.replica; table = table.new; length = result.length; buffer = buffer.new } ≡ own_edit r table.old buffer.old p text.now }
+    ensures { own_outcome r (Ok result) table.new buffer.new ≡ own_edit r table.old buffer.old p text.now }
 {
-    // its answer is 0: there is room, and an own patch is well-formed
-    let written = write(p, text, buffer);
+    // never refused: there is room, and an own patch is well-formed
+    let length = write(p, text, buffer).unwrap();
     let done = apply(r, table, p, text, found);
-    let next = done.replica;
     Edited {
-        replica: next,
-        answer: done.answer,
-        length: written.length,
+        replica: done.replica,
+        length,
     }
 }

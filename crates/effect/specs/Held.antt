@@ -1,9 +1,12 @@
 -- What a replica holds (01, 'The record and the table'): "the own site", "for each of the 16 sites a
 -- count", and the lines of its script. Record and table are the bytes and numbers of just that.
 -- Assumes nothing.
-use Rattle.std.specs.Prelude.{ℕ, List, length}
+use Rattle.std.specs.Prelude.{ℕ, List, length, Result, Ok, Err}
 use Rattle.record.specs.declared.Replica.{Replica}
 use Rattle.script.specs.Lines.{Line, encode_table, decode_table}
+use Rattle.format.specs.declared.answers.Refusal.{Refusal}
+use Rattle.format.specs.Answers.{success_number, refusal_number}
+use Rattle.effect.specs.declared.Done.{Done}
 
 pub record Held : Type 0 where
   pub site : ℕ
@@ -34,3 +37,9 @@ unchanged r table n = record { answer = n; replica = r; table = table }
 -- done: they hold this
 abbrev pub leaving : ℕ → Held → Outcome
 leaving n h = record { answer = n; replica = record_holding h; table = table_holding h }
+
+-- what a call came to, and the table that it leaves, as 01's number, record and table: refused, the record is as
+-- it was
+abbrev pub came_to : Replica → Result Done Refusal → List ℕ → Outcome
+came_to r (Ok done) table = record { answer = success_number done.success; replica = done.replica; table = table }
+came_to r (Err why) table = record { answer = refusal_number why; replica = r; table = table }

@@ -8,6 +8,7 @@ use Rattle.script.specs.Lines.{Line, encode_table, decode_table}
 use Rattle.script.specs.Sound.{Sound}
 use Rattle.script.specs.Find.{find_in}
 use Rattle.format.specs.declared.Patch.{Patch}
+use Rattle.format.specs.Answers.{success_number}
 use Rattle.effect.specs.declared.Changed.{Changed}
 use Rattle.effect.specs.Held.{held_in}
 use Rattle.effect.specs.Effect.{Takes}
@@ -21,5 +22,5 @@ pub record Ready (r : Replica) (table : List ℕ) (p : Patch) (text : List ℕ) 
 -- the table holds these lines; their number, and the answer
 pub record Leaves (lines : List Line) (done : ℕ) (c : Changed) (table : List ℕ) : Type 0 where
   pub rows : c.rows ≡ length lines
-  pub answer : c.answer ≡ done
+  pub answer : success_number c.success ≡ done
   pub bytes : table ≡ encode_table lines

@@ -1,10 +1,13 @@
 // 01's examples that are calls: the last two rows of 'Examples on both sides', and what 'Errors that look
 // right' tells of. Each writes its answers in the order of its calls.
-use crate::hosts;
-use edits::Edited;
+ghost use Rattle.std.specs.Prelude.{◌≡◌};
+ghost use Rattle.format.specs.Answers.{done_number};
+
+use format::answers::{Refusal, Success, number};
 use format::{MOST, TEXT};
-use record::{Replica, SITES};
+use record::Replica;
 use script::{ROW, ROWS, TABLE};
+use show::Hex;
 use std::io;
 
 // Writes what each case answers.
@@ -18,42 +21,34 @@ pub fn run(rt: &impl Print) -> io::Result<()> {
 fn show_texts(rt: &impl Print) -> io::Result<()> {
     let mut table = [0u8; TABLE];
     let mut patch = [0u8; MOST];
-    let text = [65u8; TEXT + 1];
-    let started = hosts::start(unused(), &mut table, 1);
-    let r = started.replica;
-    let most = hosts::insert(r, &mut table, 0, 0, &text[..TEXT], &mut patch);
-    let r = most.replica;
-    let over = hosts::insert(r, &mut table, 0, 0, &text, &mut patch);
-    show::write(rt, b"texts")?;
-    show_answer(rt, most.answer)?;
-    show_answer(rt, over.answer)?;
-    show::write(rt, b"\n")
+    let text = [b'A'; TEXT + 1];
+    let mut r = started(1, &mut table);
+    let most = lent::insert(&mut r, &mut table, 0, 0, &text[..TEXT], &mut patch);
+    let over = lent::insert(&mut r, &mut table, 0, 0, &text, &mut patch);
+    println!(rt; "texts {} {}", edit_number(most), edit_number(over))
 }
 
 // 512 rows, insert; then delete, insert.
 fn show_full(rt: &impl Print) -> io::Result<()> {
     let mut table = [0u8; TABLE];
     let mut patch = [0u8; MOST];
-    let r = full(&mut table, &mut patch);
-    let refused = hosts::insert(r, &mut table, 0, 0, b"", &mut patch);
-    let r = refused.replica;
-    let struck = hosts::delete(r, &mut table, 0, &mut patch);
-    let r = struck.replica;
-    let put = hosts::insert(r, &mut table, 0, 0, b"", &mut patch);
-    show::write(rt, b"rows")?;
-    show_answer(rt, refused.answer)?;
-    show_answer(rt, struck.answer)?;
-    show_answer(rt, put.answer)?;
-    show::write(rt, b"\n")
+    let mut r = full(&mut table, &mut patch);
+    let refused = lent::insert(&mut r, &mut table, 0, 0, b"", &mut patch);
+    let struck = lent::delete(&mut r, &mut table, 0, &mut patch);
+    let put = lent::insert(&mut r, &mut table, 0, 0, b"", &mut patch);
+    println!(rt;
+        "rows {} {} {}",
+        edit_number(refused),
+        edit_number(struck),
+        edit_number(put)
+    )
 }
 
 // A replica of site 1 with all rows in use, each put behind the last.
 fn full(table: &mut [u8], patch: &mut [u8]) -> Replica {
-    let started = hosts::start(unused(), table, 1);
-    let mut r = started.replica;
+    let mut r = started(1, table);
     for row in 0..ROWS {
-        let put = hosts::insert(r, table, row, 0, b"", patch);
-        r = put.replica;
+        let _ = lent::insert(&mut r, table, row, 0, b"", patch);
     }
     r
 }
@@ -61,63 +56,69 @@ fn full(table: &mut [u8], patch: &mut [u8]) -> Replica {
 // Striking by position alone: sites 2 and 3 strike (1,1) number 1; site 1 hears site 2, writes (1,1)
 // number 2, then hears site 3. Number 2 stays. That the late delete was counted shows in the answer to
 // site 3's next patch; and site 2, offered the struck line again, does not take it.
-//
-// Each buffer is a slice from the start, and lent on to each call.
 fn show_struck_by_two(rt: &impl Print) -> io::Result<()> {
-    let first = &mut [0u8; TABLE][..];
-    let second = &mut [0u8; TABLE][..];
-    let third = &mut [0u8; TABLE][..];
-    let line = &mut [0u8; MOST][..];
-    let by_2 = &mut [0u8; MOST][..];
-    let by_3 = &mut [0u8; MOST][..];
-    let later = &mut [0u8; MOST][..];
-    let started = hosts::start(unused(), first, 1);
-    let put = hosts::insert(started.replica, first, 0, 0, b"one", line);
-    let struck_2 = strike(2, second, front(line, put.length), by_2);
-    let struck_3 = strike(3, third, front(line, put.length), by_3);
-    let heard_2 = hosts::receive(put.replica, first, front(by_2, struck_2.length));
-    let again = hosts::insert(heard_2.replica, first, 0, 0, b"two", later);
-    let heard_3 = hosts::receive(again.replica, first, front(by_3, struck_3.length));
-    let next = hosts::insert(struck_3.replica, third, 0, 0, b"three", later);
-    let heard_next = hosts::receive(heard_3.replica, first, front(later, next.length));
-    let offered = hosts::receive(struck_2.replica, second, front(line, put.length));
-    show::write(rt, b"struck by two")?;
-    show_answer(rt, heard_2.answer)?;
-    show_answer(rt, again.answer)?;
-    show_answer(rt, heard_3.answer)?;
-    show_answer(rt, heard_next.answer)?;
-    show_answer(rt, offered.answer)?;
-    show::write(rt, b"\n")?;
-    show::hex(rt, front(first, 2 * ROW))?;
-    show::write(rt, b"\n")
+    let mut first = [0u8; TABLE];
+    let mut second = [0u8; TABLE];
+    let mut third = [0u8; TABLE];
+    let mut line = [0u8; MOST];
+    let mut by_2 = [0u8; MOST];
+    let mut by_3 = [0u8; MOST];
+    let mut later = [0u8; MOST];
+    let mut r_1 = started(1, &mut first);
+    let mut r_2 = started(2, &mut second);
+    let mut r_3 = started(3, &mut third);
+    let put = lent::insert(&mut r_1, &mut first, 0, 0, b"one", &mut line);
+    let line = front(&line, put);
+    let struck_2 = strike(&mut r_2, &mut second, line, &mut by_2);
+    let struck_3 = strike(&mut r_3, &mut third, line, &mut by_3);
+    let heard_2 = lent::receive(&mut r_1, &mut first, front(&by_2, struck_2));
+    let again = lent::insert(&mut r_1, &mut first, 0, 0, b"two", &mut later);
+    let heard_3 = lent::receive(&mut r_1, &mut first, front(&by_3, struck_3));
+    let next = lent::insert(&mut r_3, &mut third, 0, 0, b"three", &mut later);
+    let heard_next = lent::receive(&mut r_1, &mut first, front(&later, next));
+    let offered = lent::receive(&mut r_2, &mut second, line);
+    print!(rt; "struck by two {} {}", number(heard_2), edit_number(again))?;
+    println!(rt;
+        " {} {} {}",
+        number(heard_3),
+        number(heard_next),
+        number(offered)
+    )?;
+    show_rows(rt, &first)
 }
 
-// A site that is started, receives a line and strikes it.
-fn strike(site: u32, table: &mut [u8], line: &[u8], patch: &mut [u8]) -> Edited {
-    let started = hosts::start(unused(), table, site);
-    let heard = hosts::receive(started.replica, table, line);
-    hosts::delete(heard.replica, table, 0, patch)
+// The first two rows of a table.
+fn show_rows(rt: &impl Print, table: &[u8; TABLE]) -> io::Result<()> {
+    println!(rt; "{}", Hex(&table[..2 * ROW]))
 }
 
-// The first bytes, or all where there are fewer.
-fn front(bytes: &[u8], length: usize) -> &[u8] {
-    if length <= bytes.len() {
-        &bytes[..length]
-    } else {
-        bytes
-    }
+// A replica that is started as this site. A refusal would show in the next answer: a record of no host is never
+// sound.
+fn started(site: u32, table: &mut [u8]) -> Replica {
+    let mut r = Replica::default();
+    let _ = lent::start(&mut r, table, site);
+    r
 }
 
-// A record before its replica is started.
-fn unused() -> Replica {
-    Replica {
-        site: 0,
-        rows: 0,
-        counts: [0; SITES],
-    }
+// Receives a line, and strikes the one in row 0.
+fn strike(
+    r: &mut Replica,
+    table: &mut [u8],
+    line: &[u8],
+    patch: &mut [u8],
+) -> Result<usize, Refusal> {
+    let _ = lent::receive(r, table, line);
+    lent::delete(r, table, 0, patch)
 }
 
-fn show_answer(rt: &impl Print, answer: u32) -> io::Result<()> {
-    show::write(rt, b" ")?;
-    show::number(rt, answer as u64)
+// The patch that an edit wrote at the front of a buffer: nothing, where it was refused.
+fn front(buffer: &[u8], edited: Result<usize, Refusal>) -> &[u8] {
+    &buffer[..edited.unwrap_or(0).min(buffer.len())]
+}
+
+// The number of an edit's answer.
+fn edit_number(edited: Result<usize, Refusal>) -> u32
+    ensures { result ≡ done_number edited }
+{
+    number(edited.map(|_| Success::Done))
 }

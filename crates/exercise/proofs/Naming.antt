@@ -16,9 +16,7 @@ use Rattle.record.specs.Records.{count_of, CountsFit, record_size, counts_size, 
 use Rattle.record.proofs.Decided.{counts_fit?}
 use Rattle.format.specs.Answers.{first_of}
 use Rattle.format.proofs.Checked.{Passed, passed_done}
-use Rattle.replica.specs.declared.compare.Lack.{Lack}
-use Rattle.replica.specs.declared.compare.Compared.{Compared}
-use Rattle.replica.specs.Compare.{no_lack, lack_of, compare_checks, compare_call}
+use Rattle.replica.specs.Compare.{Lack, Compared, no_lack, lack_of, compare_checks, compare_call}
 use Rattle.replica.proofs.Compared.{together_at}
 use Rattle.host.specs.Calls.{lacks_size, lack_bytes, ComparedBytes, compare_bytes}
 use Rattle.exercise.specs.World.{Host, Site}

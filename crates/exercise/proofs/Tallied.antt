@@ -13,8 +13,8 @@ use mathlib.Core.List.{List, [], ◌∷◌, Memᴰ}
 use lib.Dec.{eqb}
 use lib.ListN.{length, take, get_or}
 use Rattle.position.specs.declared.Identifier.{Identifier}
-use Rattle.position.specs.declared.order.Order.{Order}
-use Rattle.position.specs.declared.order.Order.TheVariants.{Below, Same, Above}
+use Rattle.std.specs.declared.cmp.Ordering.{Ordering}
+use Rattle.std.specs.declared.cmp.Ordering.TheVariants.{Less, Equal, Greater}
 use Rattle.position.specs.Positions.{ids_of}
 use Rattle.position.specs.Order.{order_of}
 use Rattle.position.proofs.Ordered.{same_is, is_same}
@@ -55,11 +55,11 @@ struck_is : (place : List Identifier) (n : ℕ) (l : Line) → (place ≡ l.posi
     → record { position = place; number = n } ≡ identity_of l
 struck_is place n l (position, number) = λ d. record { position = position d; number = number d }
 
--- `is_same_order` is true of `Same` alone
-same_told : (o : Order) → is_same_order o ≡ true → o ≡ Same
-same_told Below e = absurd (false≢true e)
-same_told Same e = refl
-same_told Above e = absurd (false≢true e)
+-- `is_same_order` is true of `Equal` alone
+same_told : (o : Ordering) → is_same_order o ≡ true → o ≡ Equal
+same_told Less e = absurd (false≢true e)
+same_told Equal e = refl
+same_told Greater e = absurd (false≢true e)
 
 -- one line is one identity
 one_line_lem : (x y : Identity) → (one_line x y ≡ true) ↔ (x ≡ y)

@@ -31,7 +31,7 @@ use Rattle.effect.specs.Effect.{done_answer, effect, Takes}
 use Rattle.effect.proofs.Keeps.{SoundHeld, held_sound, held_back}
 use Rattle.replica.specs.Start.{empty, start_checks, start_call}
 use Rattle.edits.specs.Own.{OwnOutcome, untouched, own_patch, own_edit}
-use Rattle.edits.specs.Insert.{place_before, insert_checks, insert_call}
+use Rattle.edits.specs.Insert.{place_before, position_made, insert_checks, insert_call}
 use Rattle.edits.specs.Delete.{delete_checks, delete_call}
 use Rattle.edits.proofs.OwnDone.{OwnDone}
 use Rattle.edits.proofs.Inserted.{insert_done}
@@ -167,14 +167,14 @@ module _ (h : Held) (sound : SoundHeld h) (state table : List ℕ) (holds : Hold
         → OwnTold h (take inserted.written inserted.patch) inserted.state inserted.table
     unfolding insert_bytes done_answer
     insert_tells answered =
-        own_told buffer (place_before r table row draw).place (Insert (length text)) (filled 48 text)
+        own_told buffer (position_made (place_before r table row draw)) (Insert (length text)) (filled 48 text)
         (insert_call r table row draw text buffer) (insert_done r table row draw text buffer counts_size_lem answered).1 refl
 
     pub insert_stays : (inserted.answer ≡ 0 → ⊥) → (inserted.state ≡ state) × (inserted.table ≡ table)
     unfolding insert_bytes insert_call
     insert_stays =
         let made = place_before r table row draw in
-        own_stays buffer (own_patch r made.place (Insert (length text))) (filled 48 text) (insert_checks r table row text buffer made)
+        own_stays buffer (own_patch r (position_made made) (Insert (length text))) (filled 48 text) (insert_checks r table row text buffer made)
 
   module _ (row : ℕ) (buffer : List ℕ) where
     abbrev deleted : OwnCalled

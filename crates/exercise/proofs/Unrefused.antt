@@ -11,7 +11,7 @@ use lib.ListN.{get_or}
 use Rattle.position.specs.declared.Identifier.{Identifier}
 use Rattle.position.specs.Positions.{ids_of, author_of}
 use Rattle.position.specs.Order.{order_of}
-use Rattle.position.specs.declared.order.Order.TheVariants.{Same}
+use Rattle.std.specs.declared.cmp.Ordering.TheVariants.{Equal}
 use Rattle.position.proofs.Ordered.{is_same}
 use Rattle.record.specs.Records.{count_of}
 use Rattle.script.specs.declared.table.Found.{Found}
@@ -51,8 +51,8 @@ module _ (p : List Identifier) (lines : List Line) where
   pub no_row : Rises lines → is_row (find_in p lines) ≡ false → (l : Line) → Memᴰ l lines → l.position ≡ p → ⊥
   no_row rises none l m is =
       let at = at_mem no_line l lines m in
-      let same : order_of (place_at lines at.0) p ≡ Same =
-      subst (λ (q : List Identifier). order_of q p ≡ Same) (sym (ap (λ (k : Line). k.position) at.1.1 ∙ is)) (is_same p) in
+      let same : order_of (place_at lines at.0) p ≡ Equal =
+      subst (λ (q : List Identifier). order_of q p ≡ Equal) (sym (ap (λ (k : Line). k.position) at.1.1 ∙ is)) (is_same p) in
       true≢false (sym (ap is_row (found_same lines rises p at.0 at.1.0 same)) ∙ none)
 
 -- an insert's line is of its author and has its number

@@ -6,8 +6,7 @@ use mathlib.Core.List.{List, Memᴰ}
 use Rattle.rows.specs.Rows.{flat}
 use Rattle.record.specs.Records.{count_of, record_read}
 use Rattle.script.specs.Lines.{Line, decode_table}
-use Rattle.replica.specs.declared.compare.Lack.{Lack}
-use Rattle.replica.specs.Compare.{no_lack, compare_call}
+use Rattle.replica.specs.Compare.{Lack, no_lack, compare_call}
 use Rattle.host.specs.Calls.{lacks_size, lack_bytes, receive_bytes, compare_bytes}
 use Rattle.exercise.specs.World.{Host, World, Site, host_of}
 use Rattle.exercise.specs.Scripts.{patch_of, Script}

@@ -3,8 +3,8 @@
 -- Assumes nothing.
 use Rattle.std.specs.Prelude.{ℕ, suc, Bool, true, false, cond, ◌&&◌, ◌||◌, List, [], ◌∷◌, eqb}
 use Rattle.position.specs.declared.Identifier.{Identifier}
-use Rattle.position.specs.declared.order.Order.{Order}
-use Rattle.position.specs.declared.order.Order.TheVariants.{Below, Same, Above}
+use Rattle.std.specs.declared.cmp.Ordering.{Ordering}
+use Rattle.std.specs.declared.cmp.Ordering.TheVariants.{Less, Equal, Greater}
 use Rattle.position.specs.Positions.{ids_of}
 use Rattle.position.specs.Order.{order_of}
 use Rattle.format.specs.declared.Edit.{Edit}
@@ -18,10 +18,10 @@ pub record Identity : Type 0 where
   pub position : List Identifier
   pub number : ℕ
 
-abbrev pub is_same_order : Order → Bool
-is_same_order Below = false
-is_same_order Same = true
-is_same_order Above = false
+abbrev pub is_same_order : Ordering → Bool
+is_same_order Less = false
+is_same_order Equal = true
+is_same_order Greater = false
 
 abbrev pub one_line : Identity → Identity → Bool
 one_line x y = is_same_order (order_of x.position y.position) && eqb x.number y.number

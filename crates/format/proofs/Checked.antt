@@ -6,6 +6,7 @@ use mathlib.Core.Bool.{Bool, true, false, true≢false, ◌||◌}
 use mathlib.Core.List.{List, [], ◌∷◌}
 use lib.Dec.{eqb}
 use borrow.Author.Tests.{eq-eqb}
+use Rattle.std.proofs.lemmas.Bool.{or_parts}
 use Rattle.format.specs.Answers.{first_of}
 
 -- none of the grounds holds, told in their order
@@ -17,14 +18,6 @@ Passed ((b, n) ∷ checks) = (b ≡ false) × Passed checks
 abbrev pub among : ℕ → List (Bool × ℕ) → Bool
 among a [] = false
 among a ((b, n) ∷ checks) = eqb a n || among a checks
-
-first_false : (a b : Bool) → (a || b) ≡ false → a ≡ false
-first_false true b e = e
-first_false false b e = refl
-
-rest_false : (a b : Bool) → (a || b) ≡ false → b ≡ false
-rest_false true b e = absurd (true≢false e)
-rest_false false b e = e
 
 module _ {ℓ} {A : Type ℓ} (refused : ℕ → A) (done : A) where
   -- what holds of every refusal, and of what is done where none of the grounds holds, holds of the call
@@ -48,9 +41,9 @@ module _ {ℓ} {A : Type ℓ} (refused : ℕ → A) (done : A) where
   unfolding first_of
   answer_passed answer is a [] other e = tt
   answer_passed answer is a ((true, n) ∷ checks) other e =
-      absurd (true≢false (sym (eq-eqb a n (sym e ∙ is n)) ∙ first_false (eqb a n) (among a checks) other))
+      absurd (true≢false (sym (eq-eqb a n (sym e ∙ is n)) ∙ (or_parts (eqb a n) (among a checks) other).0))
   answer_passed answer is a ((false, n) ∷ checks) other e =
-      (refl, answer_passed answer is a checks (rest_false (eqb a n) (among a checks) other) e)
+      (refl, answer_passed answer is a checks (or_parts (eqb a n) (among a checks) other).1 e)
 
   -- and so that it is done
   pub answer_done : (answer : A → ℕ) → ((n : ℕ) → answer (refused n) ≡ n) → (a : ℕ) (checks : List (Bool × ℕ))

@@ -1,50 +1,98 @@
-// The answer numbers (01, 'Answer numbers'). DONE and GONE are not refusals; every other number returns
-// with all as it was.
+// The answers (01, 'Answer numbers'): what a call has done, or why it refuses. Every refusal returns with all as it
+// was. 01's numbers are those of the variants; specs/Answers.antt says so to the promises.
+ghost use Rattle.std.specs.Prelude.{◌≡◌};
+ghost use Rattle.format.specs.Answers.{answer_number, refusal_number, success_number};
 
-// done
-pub const DONE: u32 = 0;
+use record::site::NoSite;
 
-// record or table not sound, or wrong length
-pub const UNSOUND: u32 = 1;
+// What a call has done.
+#[derive(Clone, Copy, Debug, PartialEq, Eq)]
+pub enum Success {
+    // done
+    Done = 0,
 
-// patch malformed
-pub const MALFORMED: u32 = 2;
+    // done: the struck line had gone before
+    Gone = 15,
+}
 
-// author is this site and the number is above its count
-pub const OWN_AHEAD: u32 = 3;
+// Why a call refuses.
+#[derive(Clone, Copy, Debug, PartialEq, Eq)]
+pub enum Refusal {
+    // record or table not sound, or wrong length
+    Unsound = 1,
 
-// received already: number at most the author's count
-pub const RECEIVED: u32 = 4;
+    // patch malformed
+    Malformed = 2,
 
-// early: some Before entry is above this replica's count
-pub const EARLY: u32 = 5;
+    // author is this site and the number is above its count
+    OwnAhead = 3,
 
-// insert: a row has this position already
-pub const POSITION_TAKEN: u32 = 6;
+    // received already: number at most the author's count
+    Received = 4,
 
-// insert, own or received: 512 rows are in use
-pub const FULL: u32 = 7;
+    // early: some Before entry is above this replica's count
+    Early = 5,
 
-// no such row
-pub const NO_ROW: u32 = 8;
+    // insert: a row has this position already
+    PositionTaken = 6,
 
-// text over 48 bytes
-pub const LONG_TEXT: u32 = 9;
+    // insert, own or received: 512 rows are in use
+    Full = 7,
 
-// patch buffer under 161 bytes, whether or not the patch would fit
-pub const SHORT_BUFFER: u32 = 10;
+    // no such row
+    NoRow = 8,
 
-// own count is 1,000,000
-pub const NUMBERS_SPENT: u32 = 11;
+    // text over 48 bytes
+    LongText = 9,
 
-// no place of at most 8 identifiers
-pub const NO_PLACE: u32 = 12;
+    // patch buffer under 161 bytes, whether or not the patch would fit
+    ShortBuffer = 10,
 
-// the place made is a row already
-pub const PLACE_TAKEN: u32 = 13;
+    // own count is 1,000,000
+    NumbersSpent = 11,
 
-// site not 1 to 16
-pub const NO_SITE: u32 = 14;
+    // no place of at most 8 identifiers
+    NoPlace = 12,
 
-// done: the struck line had gone before
-pub const GONE: u32 = 15;
+    // the place made is a row already
+    PlaceTaken = 13,
+
+    // site not 1 to 16
+    NoSite = 14,
+}
+
+impl From<Success> for u32 {
+    ghost from_gives = { λ done n. n ≡ success_number done };
+
+    fn from(done: Success) -> u32 {
+        done as u32
+    }
+}
+
+impl From<Refusal> for u32 {
+    ghost from_gives = { λ why n. n ≡ refusal_number why };
+
+    fn from(why: Refusal) -> u32 {
+        why as u32
+    }
+}
+
+impl From<NoSite> for Refusal {
+    ghost use Rattle.format.specs.declared.answers.Refusal.{Refusal};
+
+    ghost from_gives = { λ _ why. why ≡ Refusal.NoSite };
+
+    fn from(_no: NoSite) -> Refusal {
+        Refusal::NoSite
+    }
+}
+
+// The number of an answer, for those who are given numbers: a host in C, the listing.
+pub fn number(answer: Result<Success, Refusal>) -> u32
+    ensures { result ≡ answer_number answer }
+{
+    match answer {
+        Ok(done) => u32::from(done),
+        Err(why) => u32::from(why),
+    }
+}

@@ -1,2 +1,4 @@
 pub mod Called
+pub mod Calls
+pub mod Sites
 pub mod Refused

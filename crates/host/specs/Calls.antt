@@ -11,11 +11,10 @@ use Rattle.script.specs.Lines.{text_start}
 use Rattle.format.specs.Answers.{first_of}
 use Rattle.reader.specs.Read.{read_first}
 use Rattle.effect.specs.Held.{Outcome}
-use Rattle.replica.specs.declared.compare.Lack.{Lack}
 use Rattle.replica.specs.Start.{start_call}
 use Rattle.replica.specs.Receive.{receive_call}
 use Rattle.replica.specs.Read.{TextRead, read_call}
-use Rattle.replica.specs.Compare.{compare_checks, compare_call}
+use Rattle.replica.specs.Compare.{Lack, compare_checks, compare_call}
 use Rattle.edits.specs.Own.{OwnOutcome}
 use Rattle.edits.specs.Insert.{insert_call}
 use Rattle.edits.specs.Delete.{delete_call}

@@ -1,28 +1,43 @@
 // What comparing gives, as bytes: sixteen times side (1), first (4), last (4).
-ghost use Rattle.std.specs.Prelude.{◌≡◌, length};
-ghost use Rattle.rows.specs.Rows.{flat};
+ghost use Rattle.std.specs.Prelude.{◌≡◌, ◌+◌, ◌≤◌, length, map};
+ghost use Rattle.rows.specs.Rows.{flat, written};
+ghost use Rattle.replica.specs.Compare.{lack_given};
 ghost use Rattle.host.specs.Calls.{lacks_size, lack_bytes};
 
 use record::SITES;
-use replica::compare::Lack;
-use rows::numbers::{put_1, put_4};
+use replica::compare::Missing;
+use rows::numbers::Number;
 
 pub const LACK: usize = 9;
 
 pub const LACKS: usize = SITES * LACK;
 
 // Writes what is lacked of each site, one behind the other.
-pub fn write_lacks(sites: [Lack; SITES], res: &mut [u8])
+pub fn write_lacks(sites: [Option<Missing>; SITES], res: &mut [u8])
     requires { length res.old ≡ lacks_size }
-    ensures { res.new ≡ flat lack_bytes sites }
+    ensures { res.new ≡ flat lack_bytes (map lack_given sites) }
 {
-    let mut i = 0;
-    while i < SITES {
-        let lack = sites[i];
-        let at = i * LACK;
-        put_1(res, at, lack.more);
-        put_4(res, at + 1, lack.first);
-        put_4(res, at + 5, lack.last);
-        i = i + 1;
+    for i in 0..SITES {
+        put_lack(sites[i], res, i * LACK);
+    }
+}
+
+// Writes what is lacked of one site: zeros where nothing is.
+#[tactic(auto, using(crate::proofs::Sites::lack_written))]
+fn put_lack(lack: Option<Missing>, res: &mut [u8], at: usize)
+    requires { at + 9 ≤ length res.old }
+    ensures { res.new ≡ written at (lack_bytes (lack_given lack)) res.old }
+{
+    match lack {
+        None => {
+            0u8.put(res, at);
+            0u32.put(res, at + 1);
+            0u32.put(res, at + 5);
+        }
+        Some(missing) => {
+            u8::from(missing.more).put(res, at);
+            missing.first.put(res, at + 1);
+            missing.last.put(res, at + 5);
+        }
     }
 }

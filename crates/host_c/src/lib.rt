@@ -1,7 +1,8 @@
 // The symbols that a host program in C links: the calls of `host`, each under its own name and by C's calling
 // convention. `make` puts them into the archive; include/script_replica.h declares them.
 //
-// Rests on `host`, which says what each call gives: an export makes the call of its name and promises the same.
+// Rests on `host`, which says what each call gives: an export makes the call of its name and promises the same. The two
+// are twins because C needs them so: a crate is a library for Rattle or an archive for C.
 #![tactic(auto)]
 
 ghost use Rattle.std.specs.Prelude.{◌≡◌};

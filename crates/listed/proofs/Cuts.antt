@@ -1,6 +1,6 @@
 -- How an input is cut into patches: each is a front of the bytes that are left, and has a byte at least.
 -- Assumes nothing.
-use Prim.Native.Nat.{ℕ, zero, suc, ◌+◌, ◌-◌, ◌<◌, ◌≤◌}
+use Prim.Native.Nat.{ℕ, zero, suc, ◌-◌, ◌<◌, ◌≤◌}
 use native.Mathlib.Nat.{eq-zero-or-pos}
 use native.Mathlib.Omega.{arith}
 use mathlib.Core.Path.{◌≡◌, refl, sym, ap, ◌∙◌}
@@ -8,8 +8,12 @@ use mathlib.Core.Logic.{⊎_elim}
 use mathlib.Core.List.{List, [], ◌∷◌}
 use borrow.Author.Tests.{eq-eqb, ne_eqb}
 use lib.ListN.{length, take, drop, length-take, length-drop}
-use lib.Seq.{length-take-le, take-length, drop-drop}
-use Rattle.reader.specs.Read.{read_first}
+use lib.Seq.{length-take-le, take-length}
+use Rattle.std.specs.Option.{MatchOption}
+use Rattle.std.proofs.Common.{Option, None, Some}
+use Rattle.reader.specs.declared.Reading.{Reading}
+use Rattle.reader.specs.Read.{read_first, taken}
+use Rattle.reader.proofs.Taken.{none_taken, some_taken}
 use Rattle.reader.proofs.Readings.{what_is_read}
 use Rattle.listed.specs.Listing.{first_in, cut, patches_in}
 
@@ -37,6 +41,14 @@ none_length s none = ap length (sym (none_first s none))
 pub some_length : (s : List ℕ) → 1 ≤ (read_first s).used → (read_first s).used ≡ length (first_in s)
 some_length s some =
     sym (ap length (some_first s some) ∙ length-take-le (read_first s).used s (used_inside s some))
+
+-- and as a reading that may be there tells it
+pub first_length : (s : List ℕ) (n : ℕ) (o : Option Reading) (P : Reading → Type 0) → o ≡ taken (read_first s)
+    → ((x : Reading) → P x → n ≡ x.used) → MatchOption o (n ≡ length s) P → n ≡ length (first_in s)
+first_length s n None P is told all = all ∙ none_length s (none_taken (read_first s) (sym is))
+first_length s n (Some x) P is told used =
+    let both = some_taken (read_first s) x (sym is) in
+    told x used ∙ ap (λ (r : Reading). r.used) both.0 ∙ some_length s (omega (arith, both.1))
 
 -- the first patch is a front of the bytes, and not empty where they are not
 record Front (s first : List ℕ) : Type 0 where
@@ -72,6 +84,16 @@ same_cut (suc m) (suc n) (b ∷ s) h k =
     let size : length (drop (length first) (b ∷ s)) ≡ length (b ∷ s) - length first = length-drop (length first) (b ∷ s) in
     ap (λ (ps : List (List ℕ)). first ∷ ps) (same_cut m n (drop (length first) (b ∷ s)) (omega arith) (omega arith))
 
+-- there are no more patches than bytes
+pub patches_most : (s : List ℕ) → length (patches_in s) ≤ length s
+unfolding cut
+patches_most s = bounded (length s) s
+  where
+    bounded : (most : ℕ) (s : List ℕ) → length (cut most s) ≤ most
+    bounded zero s = omega arith
+    bounded (suc most) [] = omega arith
+    bounded (suc most) (b ∷ s) = omega (arith, bounded most (drop (length (first_in (b ∷ s))) (b ∷ s)))
+
 -- where no byte is left, no patch is
 pub no_patches : (s : List ℕ) → length s ≡ 0 → patches_in s ≡ []
 unfolding cut
@@ -88,17 +110,10 @@ patches_step (b ∷ s) some =
     let size : length rest ≡ length (b ∷ s) - length first = length-drop (length first) (b ∷ s) in
     ap (λ (ps : List (List ℕ)). first ∷ ps) (same_cut (length s) (length rest) rest (omega arith) (omega arith))
 
--- The same from a place of the input on, where the first patch has so many bytes.
-module _ (input : List ℕ) (at size : ℕ) (inside : at < length input) (is : size ≡ length (first_in (drop at input))) where
-  pub size_least : 1 ≤ size
-  size_least = rw is ((first_front (drop at input)).least (omega (arith, length-drop at input)))
+-- The same where the first patch has so many bytes.
+module _ (s : List ℕ) (size : ℕ) (is : size ≡ length (first_in s)) where
+  pub size_most : size ≤ length s
+  size_most = rw is (first_front s).most
 
-  pub size_most : at + size ≤ length input
-  size_most = omega (arith, length-drop at input, (first_front (drop at input)).most)
-
-  pub patches_from : patches_in (drop at input) ≡ take size (drop at input) ∷ patches_in (drop (at + size) input)
-  patches_from =
-      let first = first_in (drop at input) in
-      let rest : drop (length first) (drop at input) ≡ drop (at + size) input = rw (← is) (drop-drop size at input) in
-      let bytes : first ≡ take size (drop at input) = rw is (first_front (drop at input)).bytes in
-      patches_step (drop at input) (omega (arith, length-drop at input)) ∙ (λ d. bytes d ∷ patches_in (rest d))
+  pub patches_from : 0 < length s → patches_in s ≡ take size s ∷ patches_in (drop size s)
+  patches_from some = rw is (patches_step s some ∙ ap (λ (p : List ℕ). p ∷ patches_in (drop (length (first_in s)) s)) (first_front s).bytes)

@@ -19,9 +19,11 @@ enough (suc most) (suc other) (suc n) h k =
     ap (λ (l : List ℕ). cond (ltb (suc n) 10) (digit (suc n)) (l ++ digit (suc n % 10)))
     (enough most other (suc n / 10) (omega arith) (omega arith))
 
-pub decimal_digit : (n : ℕ) → n < 10 → decimal n ≡ digit n
+pub decimal_digit : (n : ℕ) → n < 10 → decimal n ≡ digit (n % 10)
 unfolding decimal digits_of
-decimal_digit n small = rw (lt-ltb n 10 small)
+decimal_digit n small =
+    let last : n % 10 ≡ n = omega arith in
+    rw (lt-ltb n 10 small, last)
 
 pub decimal_more : (n : ℕ) → 10 ≤ n → decimal n ≡ decimal (n / 10) ++ digit (n % 10)
 unfolding decimal digits_of

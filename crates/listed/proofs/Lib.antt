@@ -4,4 +4,5 @@ pub mod Decimal
 pub mod Feeding
 pub mod Longest
 pub mod Showing
+pub mod Shown
 pub mod Widths

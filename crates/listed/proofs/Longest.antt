@@ -11,11 +11,10 @@ use mathlib.Core.Logic.{⊎_elim, by_cases}
 use mathlib.Core.Bool.{Bool, true, false, cond}
 use mathlib.Core.List.{List, [], ◌∷◌}
 use lib.Dec.{eqb, ltb}
-use lib.ListN.{length, drop, get_or, length-append, length-drop, length-replicate}
+use lib.ListN.{length, drop, get_or, length-append, length-drop}
 use Rattle.rows.specs.Rows.{written}
 use Rattle.record.specs.declared.Replica.{Replica}
 use Rattle.script.specs.Lines.{Line, no_line}
-use Rattle.script.specs.Sound.{Sound}
 use Rattle.script.proofs.Held.{SoundLines, sound_lines}
 use Rattle.format.proofs.Sizes.{sizes}
 use Rattle.reader.specs.Read.{read_first}
@@ -23,13 +22,12 @@ use Rattle.reader.proofs.Readings.{what_is_read}
 use Rattle.effect.specs.Held.{Outcome}
 use Rattle.replica.specs.Receive.{receive_call}
 use Rattle.replica.proofs.Numbers.{receive_numbers}
-use Rattle.replica.proofs.Received.{receive_sound, receive_counts}
 use Rattle.listed.specs.Output.{behind}
 use Rattle.listed.specs.Text.{ascii, patch_line, from_place, row_line, rows_text}
 use Rattle.listed.specs.Listing.{most_input, first_in, cut, patches_in, fresh, fed, after_all, lines_in, report, listing}
 use Rattle.listed.proofs.Behind.{behind_whole}
 use Rattle.listed.proofs.Cuts.{none_length, some_length}
-use Rattle.listed.proofs.Feeding.{fresh_sound}
+use Rattle.listed.proofs.Feeding.{Good, fresh_good, receive_good}
 use Rattle.listed.proofs.Widths.{decimal_most, patch_line_most, row_line_most, lines_most}
 
 -- A patch takes 12 bytes at least; what is no patch is the last that is fed.
@@ -61,22 +59,6 @@ receive_most r table bytes =
     (λ not-0.
     by_cases (ℕ_discrete answer 15) (λ e. omega (arith, e))
     (λ not-15. omega (arith, (receive_numbers r table bytes not-0 not-15).1)))
-
--- What is fed stays sound.
-
-record Good (o : Outcome) : Type 0 where
-  sound : Sound o.replica o.table
-  size : length o.replica.counts ≡ 16
-
-fresh_good : Good fresh
-fresh_good = record { sound = fresh_sound; size = length-replicate {A = ℕ} 16 0 }
-
-receive_good : (o : Outcome) (bytes : List ℕ) → Good o → Good (receive_call o.replica o.table bytes)
-receive_good o bytes good =
-    record {
-      sound = receive_sound o.replica o.table bytes good.size good.sound;
-      size = receive_counts o.replica o.table bytes good.size;
-    }
 
 -- Feeding gives no more outcomes than there are patches, each with its answer at most 15, and the last is good.
 

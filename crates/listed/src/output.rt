@@ -1,34 +1,35 @@
-// Bytes and numbers put into a lent buffer one behind the other, as many as there is room for. Each function
-// is told how many bytes have been put in, and gives how many then have.
-ghost use Rattle.std.specs.Prelude.{◌≡◌};
-ghost use Rattle.listed.specs.Output.{behind};
+// Bytes and numbers put into a lent buffer one behind the other, as many as there is room for.
+ghost use Rattle.listed.specs.Steps.{Puts};
 ghost use Rattle.listed.specs.Text.{decimal};
 
 use rows::moves::copy_front;
 
-// Puts in bytes.
-pub fn put(out: &mut [u8], at: usize, bytes: &[u8]) -> usize
-    ensures { record { length = result; bytes = out.new } ≡ behind bytes.now (record { length = at; bytes = out.old }) }
-{
-    if out.len() < at {
-        return at;
-    }
-    let room = out.len() - at;
-    copy_front(&mut out[at..], bytes);
-    if bytes.len() < room {
-        at + bytes.len()
-    } else {
-        at + room
-    }
+// The lent buffer, and how many bytes have been put in.
+#[derive(Drop)]
+pub struct Output<'a> {
+    pub bytes: &'a mut [u8],
+    pub length: usize,
 }
 
-// Puts in a number, in decimal: its last digit behind those of a tenth of it.
-pub fn number(out: &mut [u8], at: usize, n: usize) -> usize
-    ensures { record { length = result; bytes = out.new } ≡ behind (decimal n) (record { length = at; bytes = out.old }) }
-{
-    if n < 10 {
-        return put(out, at, &[48 + (n as u8)]);
+impl Output<'_> {
+    // Puts in bytes.
+    pub fn put(&mut self, bytes: &[u8])
+        ensures { Puts bytes.now self.old self.new }
+    {
+        let from = self.length.min(self.bytes.len());
+        let room = self.bytes.len() - from;
+        copy_front(&mut self.bytes[from..], bytes);
+        self.length += bytes.len().min(room);
     }
-    let next = number(out, at, n / 10);
-    put(out, next, &[48 + ((n % 10) as u8)])
+
+    // Puts in a number, in decimal: its last digit behind those of a tenth of it, which the call on the tenth
+    // puts in. No `Display`: bytes go into the lent buffer, as many as there is room for.
+    pub fn number(&mut self, n: usize)
+        ensures { Puts (decimal n) self.old self.new }
+    {
+        if 10 <= n {
+            self.number(n / 10);
+        }
+        self.put(&[b'0' + (n % 10) as u8]);
+    }
 }

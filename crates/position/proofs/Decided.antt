@@ -12,8 +12,8 @@ use mathlib.Core.Logic.{◌⊎◌, inl, inr, ⊎_elim}
 use mathlib.Core.List.{List}
 use lib.ListN.{length, get_or}
 use Rattle.position.specs.declared.Identifier.{Identifier}
-use Rattle.position.specs.declared.order.Order.{Order}
-use Rattle.position.specs.declared.order.Order.TheVariants.{Below, Same, Above}
+use Rattle.std.specs.declared.cmp.Ordering.{Ordering}
+use Rattle.std.specs.declared.cmp.Ordering.TheVariants.{Less, Equal, Greater}
 use Rattle.position.specs.Positions.{pad, Proper, last_of, LinePosition}
 use Rattle.position.specs.Order.{order_of, ◌≺◌}
 use Rattle.position.proofs.Ordered.{never}
@@ -92,10 +92,10 @@ line_position? l =
     yes (record { least = least; most = most; proper = proper; unpadded = unpadded; first = first })
 
 -- whether one position stands below another
-below? : (o : Order) → Dec (o ≡ Below)
-below? Below = yes refl
-below? Same = no (λ e. never (cc))
-below? Above = no (λ e. never (cc))
+below? : (o : Ordering) → Dec (o ≡ Less)
+below? Less = yes refl
+below? Equal = no (λ e. never (cc))
+below? Greater = no (λ e. never (cc))
 
 pub under? : (p q : List Identifier) → Dec (p ≺ q)
 under? p q = below? (order_of p q)

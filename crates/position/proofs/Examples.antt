@@ -9,8 +9,9 @@ use mathlib.Core.List.Memᴰ
 use mathlib.Core.List.{List, [], ◌∷◌, Memᴰ}
 use lib.Dec.{T, eqb, eqb→eq}
 use Rattle.position.specs.declared.Identifier.{Identifier}
-use Rattle.position.specs.declared.order.Order.{Order}
-use Rattle.position.specs.declared.order.Order.TheVariants.{Below, Same, Above}
+use Rattle.std.specs.declared.cmp.Ordering.{Ordering}
+use Rattle.std.specs.declared.cmp.Ordering.TheVariants.{Less, Equal, Greater}
+use Rattle.std.specs.Ordering.{ordering_index}
 use Rattle.position.specs.Order.{number_order, identifier_order, order_of}
 use Rattle.position.specs.Rule.{followed_by, padded}
 use Rattle.position.specs.Place.{front_at, x_of, first_over, Room, room_at, room_from, room_of, place_of}
@@ -23,32 +24,27 @@ both_parts true b t = (tt, t)
 both_parts false b t = absurd t
 
 -- the tests of equality that the cases need
-abbrev rank : Order → ℕ
-rank Below = 0
-rank Same = 1
-rank Above = 2
+abbrev ranked : ℕ → Ordering
+ranked zero = Less
+ranked (suc zero) = Equal
+ranked (suc (suc n)) = Greater
 
-abbrev ranked : ℕ → Order
-ranked zero = Below
-ranked (suc zero) = Same
-ranked (suc (suc n)) = Above
+ranked_rank : (o : Ordering) → ranked (ordering_index o) ≡ o
+ranked_rank Less = refl
+ranked_rank Equal = refl
+ranked_rank Greater = refl
 
-ranked_rank : (o : Order) → ranked (rank o) ≡ o
-ranked_rank Below = refl
-ranked_rank Same = refl
-ranked_rank Above = refl
+abbrev same_order : Ordering → Ordering → Bool
+same_order a b = eqb (ordering_index a) (ordering_index b)
 
-abbrev same_order : Order → Order → Bool
-same_order a b = eqb (rank a) (rank b)
-
-same_order_lem : (a b : Order) → T (same_order a b) → a ≡ b
-same_order_lem a b t = sym (ranked_rank a) ∙ ap ranked (eqb→eq (rank a) (rank b) t) ∙ ranked_rank b
+same_order_lem : (a b : Ordering) → T (same_order a b) → a ≡ b
+same_order_lem a b t = sym (ranked_rank a) ∙ ap ranked (eqb→eq (ordering_index a) (ordering_index b) t) ∙ ranked_rank b
 
 abbrev same_ids : List Identifier → List Identifier → Bool
-same_ids a b = same_order (order_of a b) Same
+same_ids a b = same_order (order_of a b) Equal
 
 same_ids_lem : (a b : List Identifier) → T (same_ids a b) → a ≡ b
-same_ids_lem a b t = same_is a b (same_order_lem (order_of a b) Same t)
+same_ids_lem a b t = same_is a b (same_order_lem (order_of a b) Equal t)
 
 abbrev is_room : Option Room → List Identifier → ℕ → ℕ → Bool
 is_room none front lo c = false

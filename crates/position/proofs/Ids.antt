@@ -1,13 +1,14 @@
 -- The identifiers of a position, and the one value of a list: what the functions' proofs need of
 -- `ids_of` and `position_of`. A law that asks `length p.ids ≡ 8` asks what the type says.
 -- Assumes nothing.
-use Prim.Native.Nat.{ℕ, zero, suc, ◌+◌, ◌-◌, ◌<◌, ◌≤◌, min}
+use Prim.Native.Nat.{ℕ, suc, ◌+◌, ◌-◌, ◌<◌, ◌≤◌, min}
 use native.Mathlib.Numerals.{add-one}
 use native.Mathlib.Omega.{arith}
 use mathlib.Core.Path.{◌≡◌, refl, sym, ap, ◌∙◌, subst}
-use mathlib.Core.List.{List, [], ◌∷◌, ◌++◌, map, append_assoc}
-use lib.ListN.{length, take, drop, set, get_or, replicate, length-take, length-append, length-replicate, length-map, length-drop, drop_of_length-le, get_or-replicate, take-append-drop, replicate-append-replicate}
-use lib.Seq.{drop-cons, ext_get_or, get_or-drop, get_or-take, take-suc, length-take-le, take_at, set_at, append_snoc}
+use mathlib.Core.List.{List, [], ◌∷◌, ◌++◌, append_assoc, map}
+use Rattle.std.proofs.lemmas.List.{drop-replicate, take_min}
+use lib.ListN.{length, take, drop, set, get_or, replicate, length-take, length-append, length-replicate, length-map, length-drop, get_or-replicate, take-append-drop, replicate-append-replicate}
+use lib.Seq.{drop-cons, ext_get_or, get_or-drop, get_or-take, take_at, set_at, append_snoc}
 use Rattle.position.specs.declared.Identifier.{Identifier}
 use Rattle.position.specs.declared.Position.{Position}
 use Rattle.position.specs.Positions.{identifier, pad, ids_of, position_of}
@@ -53,10 +54,6 @@ pub rest_cons : (p : Position) (n : ℕ) → n < length (ids_of p) → drop n (i
 rest_cons p n h =
     rw (add-one n) (drop-cons (ids_of p) n pad h ∙ ap (λ (i : Identifier). i ∷ drop (suc n) (ids_of p)) (next_id p n h))
 
--- and where nothing does
-pub rest_none : (p : Position) (n : ℕ) → length (ids_of p) ≤ n → drop n (ids_of p) ≡ []
-rest_none p n h = drop_of_length-le (ids_of p) h
-
 -- the first of the pads is written over
 pub next_written : (l : List Identifier) (i : Identifier) → length l < 8 → set (position_of l).ids (length l) i ≡ (position_of (l ++ (i ∷ []))).ids
 next_written l i h =
@@ -66,16 +63,6 @@ next_written l i h =
     rw (first, left)
     (set_at l pad (replicate (7 - length l) pad) i (length l) refl
     ∙ sym (append_snoc l i (replicate (7 - length l) pad)))
-
--- the first m identifiers of p, and pads: one more is written
-pub filled_next : (p : Position) (m : ℕ) → m < 8 → length p.ids ≡ 8 → set (position_of (take m p.ids)).ids m (get_or p.ids m pad) ≡ (position_of (take (m + 1) p.ids)).ids
-filled_next p m h size =
-    let here : length (take m p.ids) ≡ m = length-take-le m p.ids (omega arith) in
-    let short : length (take m p.ids) < 8 = omega arith in
-    subst
-    (λ (k : ℕ). set (position_of (take m p.ids)).ids k (get_or p.ids m pad) ≡ (position_of (take (m + 1) p.ids)).ids) here
-    (next_written (take m p.ids) (get_or p.ids m pad) short
-    ∙ ap (λ (l : List Identifier). (position_of l).ids) (sym (take-suc p.ids m pad (omega arith)) ∙ ap (λ (k : ℕ). take k p.ids) (sym (add-one m))))
 
 -- one identifier more, where there is room
 list_extended : (l : List Identifier) (x s : ℕ) → length l < 8 → record { used = length l + 1; ids = set (position_of l).ids (length l) (identifier x s) } ≡ position_of (followed_by l x s)
@@ -97,30 +84,24 @@ pub is_front : (p : Position) (l : List Identifier) → p ≡ position_of l → 
 is_front p l e h =
     subst Front (sym e) (record { short = h; pads = ap position_of (sym (position_ids l)) })
 
--- what a cut leaves is the front of all that there are
-front_of_all : {A : Type 0} (n u : ℕ) (l : List A) → take (length (take n (take u l))) l ≡ take n (take u l)
-front_of_all zero u l = refl
-front_of_all (suc n) zero l = refl
-front_of_all (suc n) (suc u) [] = refl
-front_of_all {A = A} (suc n) (suc u) (x ∷ l) = ap (λ (m : List A). x ∷ m) (front_of_all n u l)
-
 pub padded_length : (l : List Identifier) (n : ℕ) → length (padded l n) ≡ n
 unfolding padded
 padded_length l n =
     simp (length-append, length-take, length-replicate) (omega arith)
 
--- the identifiers that a cut leaves, and pads from there on, are the padded front
-pub front_filled : (p : Position) (n own : ℕ) → n ≤ 8 → own ≡ length (take n (ids_of p)) → record { used = n; ids = (position_of (take own p.ids)).ids } ≡ position_of (padded (ids_of p) n)
+-- p's identifiers in front of pads: `padded` writes them over the first of 8 pads
+pub front_filled : (p : Position) (n own : ℕ) (part : List Identifier) (i : Identifier) → n ≤ 8 → own ≡ min n (length (ids_of p)) → part ≡ take own (ids_of p) → i.integer ≡ 0 → i.site ≡ 0 → record { used = n; ids = part ++ drop own (replicate 8 i) } ≡ position_of (padded (ids_of p) n)
 unfolding padded
-front_filled p n own h e =
+front_filled p n own part i h e first integer site =
     let ids = ids_of p in
     let own-part = take n ids in
     let more = replicate (n - length ids) pad in
-    let taken : take own p.ids ≡ own-part = ap (λ (m : ℕ). take m p.ids) e ∙ front_of_all n p.used p.ids in
-    let pads : 8 - length own-part ≡ (n - length ids) + (8 - n) = omega (arith, length-take n ids) in
+    let taken : part ≡ own-part = first ∙ ap (λ (m : ℕ). take m ids) e ∙ take_min n ids in
+    let a-pad : i ≡ pad = λ d. record { integer = integer d; site = site d } in
+    let pads : 8 - own ≡ (n - length ids) + (8 - n) = omega (arith, length-take n ids) in
     let whole : length (own-part ++ more) ≡ n = padded_length ids n in
-    let filled : (position_of (take own p.ids)).ids ≡ (position_of (own-part ++ more)).ids =
-    rw (taken, pads, whole)
+    let filled : part ++ drop own (replicate 8 i) ≡ (position_of (own-part ++ more)).ids =
+    rw (taken, drop-replicate own 8 i, a-pad, pads, whole)
     (ap (λ (l : List Identifier). own-part ++ l) (sym (replicate-append-replicate (n - length ids) (8 - n) pad))
     ∙ sym (append_assoc own-part more (replicate (8 - n) pad))) in
     λ d. record { used = sym whole d; ids = filled d }

@@ -7,4 +7,3 @@ pub mod Line
 pub mod Made
 pub mod Ordered
 pub mod Rooms
-pub mod Tags

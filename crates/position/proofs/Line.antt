@@ -11,8 +11,8 @@ use mathlib.Core.List.{List, [], ◌∷◌, ◌++◌}
 use lib.ListN.{length, take, get_or, replicate, length-append, length-take, get_or-replicate, get_or-append, get_or-eq_default}
 use lib.Seq.{get_or-take, get_or_at, get_or-append-add}
 use Rattle.position.specs.declared.Identifier.{Identifier}
-use Rattle.position.specs.declared.order.Order.{Order}
-use Rattle.position.specs.declared.order.Order.TheVariants.{Below, Same, Above}
+use Rattle.std.specs.declared.cmp.Ordering.{Ordering}
+use Rattle.std.specs.declared.cmp.Ordering.TheVariants.{Less, Equal, Greater}
 use Rattle.position.specs.Positions.{identifier, pad, begin, end, Proper, last_of, author_of, LinePosition, Neighbour, a_line, the_begin, the_end}
 use Rattle.position.specs.Order.{then_by, number_order, identifier_order, order_of, ◌≺◌}
 use Rattle.position.specs.Place.{place_of}
@@ -21,12 +21,12 @@ use Rattle.position.proofs.Ids.{padded_length}
 use Rattle.position.proofs.Ordered.{never, below_less, less_below, irreflexive, transitive}
 use Rattle.position.proofs.Made.{made, picked, made_between}
 
-below_either : (a r : Order) → then_by a r ≡ Below → (a ≡ Below) ⊎ ((a ≡ Same) × (r ≡ Below))
-below_either Below r e = inl e
-below_either Same r e = inr (refl, e)
-below_either Above r e = inl e
+below_either : (a r : Ordering) → then_by a r ≡ Less → (a ≡ Less) ⊎ ((a ≡ Equal) × (r ≡ Less))
+below_either Less r e = inl e
+below_either Equal r e = inr (refl, e)
+below_either Greater r e = inl e
 
-not_under_none : (l : List Identifier) → order_of l [] ≡ Below → ⊥
+not_under_none : (l : List Identifier) → order_of l [] ≡ Less → ⊥
 unfolding order_of
 not_under_none [] e = never (cc)
 not_under_none (i ∷ l) e = never (cc)

@@ -4,8 +4,8 @@
 use Rattle.std.specs.Prelude.{ℕ, ◌+◌, ◌-◌, ◌%◌, ◌≡◌, List, [], ◌∷◌, replicate}
 use Rattle.std.proofs.Math.Option.{none, some}
 use Rattle.position.specs.declared.Identifier.{Identifier}
-use Rattle.position.specs.declared.order.Order.{Order}
-use Rattle.position.specs.declared.order.Order.TheVariants.{Below}
+use Rattle.std.specs.declared.cmp.Ordering.{Ordering}
+use Rattle.std.specs.declared.cmp.Ordering.TheVariants.{Less}
 use Rattle.position.specs.Positions.{identifier, pad, begin, end}
 use Rattle.position.specs.Order.{order_of}
 use Rattle.position.specs.Rule.{followed_by}
@@ -13,7 +13,7 @@ use Rattle.position.specs.Place.{place_of}
 
 pub data Case : Type 0 where
   -- p against q
-  against : List Identifier → List Identifier → Order → Case
+  against : List Identifier → List Identifier → Ordering → Case
   -- between p and q for site s: this front, then x from lo to last
   run : List Identifier → List Identifier → ℕ → List Identifier → ℕ → ℕ → Case
   -- between p and q for site s: this draw gives this place
@@ -44,8 +44,8 @@ q6 = 5 # 1 ∷ 2 # 1 ∷ 15 # 2 ∷ []
 -- P1 to P11 in their order; P4 has a run and a draw
 abbrev pub cases : List Case
 cases =
-    against (2 # 4 ∷ 9 # 9 ∷ []) (2 # 5 ∷ []) Below ∷
-    against (2 # 4 ∷ []) (2 # 4 ∷ 1 # 1 ∷ []) Below ∷
+    against (2 # 4 ∷ 9 # 9 ∷ []) (2 # 5 ∷ []) Less ∷
+    against (2 # 4 ∷ []) (2 # 4 ∷ 1 # 1 ∷ []) Less ∷
     run begin end 3 [] 1 65534 ∷
     run (2 # 4 ∷ []) (10 # 5 ∷ []) 4 [] 3 10 ∷
     drawn (2 # 4 ∷ []) (10 # 5 ∷ []) 4 9 (4 # 4 ∷ []) ∷

@@ -3,3 +3,5 @@ pub mod Order
 pub mod Rule
 pub mod Place
 pub mod Examples
+pub mod Text
+pub mod Total

@@ -1,13 +1,12 @@
 -- The place of a new line, computed (01, 'A new place'; the report's definition 3, completed).
 -- Rule.antt has the rule itself, and proofs/Made.antt that this is the rule.
 -- Assumes nothing.
-use Rattle.std.specs.Prelude.{ℕ, zero, suc, ◌+◌, ◌-◌, ◌%◌, ◌<◌, min, max, ◌≡◌, true, false, cond, List, [], ltb, length, take, get_or}
+use Rattle.std.specs.Prelude.{ℕ, zero, suc, ◌+◌, ◌-◌, ◌%◌, ◌<◌, min, max, ◌≡◌, cond, List, ltb, length, take, get_or, Option as StdOption, None, Some}
 use Rattle.std.proofs.Math.Option.{Option, none, some, map}
 use Rattle.position.specs.declared.Identifier.{Identifier}
 use Rattle.position.specs.declared.Position.{Position}
-use Rattle.position.specs.declared.order.Order.{Order}
-use Rattle.position.specs.declared.order.Order.TheVariants.{Below, Same, Above}
-use Rattle.position.specs.declared.place.Placed.{Placed}
+use Rattle.std.specs.declared.cmp.Ordering.{Ordering}
+use Rattle.std.specs.declared.cmp.Ordering.TheVariants.{Less, Equal, Greater}
 use Rattle.position.specs.Positions.{pad, ids_of, position_of}
 use Rattle.position.specs.Order.{order_of}
 use Rattle.position.specs.Rule.{padded, followed_by}
@@ -22,10 +21,10 @@ unfoldable pub x_of : ℕ → ℕ → ℕ → ℕ
 x_of lo c draw = lo + draw % c
 
 -- one of three numbers, by an order
-abbrev pub by_order : Order → ℕ → ℕ → ℕ → ℕ
-by_order Below below same above = below
-by_order Same below same above = same
-by_order Above below same above = above
+abbrev pub by_order : Ordering → ℕ → ℕ → ℕ → ℕ
+by_order Less below same above = below
+by_order Equal below same above = same
+by_order Greater below same above = above
 
 -- the integer of the identifier that p has after its first n; 0 where it has none
 abbrev pub next_integer : List Identifier → ℕ → ℕ
@@ -73,7 +72,7 @@ room_of p q s = room_from p q s 8 0
 unfoldable pub place_of : List Identifier → List Identifier → ℕ → ℕ → Option (List Identifier)
 place_of p q s draw = map (λ room. followed_by room.front (x_of room.lo room.c draw) s) (room_of p q s)
 
--- the answer of `place`: where there is none, the place is no identifier at all
-abbrev pub placed : Option (List Identifier) → Placed
-placed none = record { made = false; place = position_of [] }
-placed (some l) = record { made = true; place = position_of l }
+-- the answer of `place`: the position made, or none
+abbrev pub placed : Option (List Identifier) → StdOption Position
+placed none = None
+placed (some l) = Some (position_of l)

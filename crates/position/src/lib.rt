@@ -10,18 +10,24 @@
 pub mod order;
 pub mod place;
 
-ghost use Rattle.std.specs.Prelude.{◌≡◌, [], ◌∷◌, length, take};
+ghost use Rattle.std.specs.Prelude.{◌≡◌, [], ◌∷◌, length, take, Some};
 ghost use Rattle.position.specs.Positions.{identifier, begin, end, ids_of, position_of};
 ghost use Rattle.position.specs.Rule.{followed_by};
 ghost use Rattle.position.specs.Place.{Front};
+ghost use Rattle.position.specs.Text.{identifier_text, position_text};
 
-#[derive(Clone, Copy)]
+use std::fmt;
+
+// An identifier is (integer, site). "Identifiers are ordered by integer, then by site": the derived order.
+#[derive(Clone, Copy, Debug, Default, PartialEq, Eq, PartialOrd, Ord)]
 pub struct Identifier {
     pub integer: u16,
     pub site: u8,
 }
 
-#[derive(Clone, Copy)]
+// The pad is the default identifier, and the default position has no identifier at all: what positions
+// are built from. `used` stands beside an array of eight, since memory is fixed and 01's layouts have the pads there.
+#[derive(Clone, Copy, Debug, Default)]
 pub struct Position {
     pub used: usize,
     pub ids: [Identifier; Position::LIMIT],
@@ -49,58 +55,65 @@ impl Position {
     fn an_end(integer: u16) -> Position
         ensures { result ≡ position_of (identifier integer 0 ∷ []) }
     {
-        Position::empty().followed_by(integer, 0)
+        Position::default().followed_by(integer, 0)
     }
 
-    // No identifier at all: what positions are built from, and what stands where there is no place.
-    fn empty() -> Position
-        ensures { result ≡ position_of [] }
+    // The identifiers of this value: as many as `used` says, but never more than there are.
+    pub fn identifiers(&self) -> &[Identifier]
+        ensures { result.now ≡ ids_of self.now }
     {
-        let pad = Identifier {
-            integer: 0,
-            site: 0,
-        };
-        Position {
-            used: 0,
-            ids: [pad; Position::LIMIT],
-        }
+        &self.ids[..self.used.min(Position::LIMIT)]
     }
 
-    // How many identifiers this value has: `used`, but never more than there are.
+    // How many they are.
     pub fn length(self) -> usize
         ensures { result ≡ length (ids_of self) }
     {
-        if self.used < Position::LIMIT {
-            self.used
-        } else {
-            Position::LIMIT
-        }
+        self.identifiers().len()
     }
 
     // The first n identifiers, or all where there are fewer. What is behind them stays as it was.
-    fn cut(self, n: usize) -> Position
-        ensures { ids_of result ≡ take n (ids_of self) }
+    fn cut(&self, n: usize) -> Position
+        ensures { ids_of result ≡ take n (ids_of self.now) }
     {
-        let ids = self.ids;
-        if n < self.used {
-            Position { used: n, ids }
-        } else {
-            self
+        Position {
+            used: self.used.min(n),
+            ..*self
         }
     }
 
     // This front, then one identifier more.
     #[tactic(auto, using(crate::proofs::Ids::extended))]
-    fn followed_by(self, integer: u16, site: u8) -> Position
-        requires { Front self }
-        ensures { result ≡ position_of (followed_by (ids_of self) integer site) }
+    fn followed_by(&self, integer: u16, site: u8) -> Position
+        requires { Front self.now }
+        ensures { result ≡ position_of (followed_by (ids_of self.now) integer site) }
     {
-        let used = self.used;
-        let mut ids = self.ids;
-        ids[used] = Identifier { integer, site };
-        Position {
-            used: used + 1,
-            ids,
+        let mut longer = *self;
+        longer.ids[self.used] = Identifier { integer, site };
+        longer.used += 1;
+        longer
+    }
+}
+
+impl fmt::Display for Identifier {
+    ghost output = { λ i. Some (identifier_text i) };
+
+    fn fmt<W: fmt::Write>(&self, f: &mut fmt::Formatter<W>) -> fmt::Result {
+        write!(f, "{}.{}", self.integer, self.site)
+    }
+}
+
+impl fmt::Display for Position {
+    ghost output = { λ p. Some (position_text (ids_of p)) };
+
+    fn fmt<W: fmt::Write>(&self, f: &mut fmt::Formatter<W>) -> fmt::Result {
+        let [first, rest @ ..] = self.identifiers() else {
+            return Ok(());
+        };
+        write!(f, "{first}")?;
+        for next in rest {
+            write!(f, ",{next}")?;
         }
+        Ok(())
     }
 }

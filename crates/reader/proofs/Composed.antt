@@ -1,104 +1,142 @@
--- How reading is put together: a field, one thing behind another, a value told otherwise. And what is known
--- of a reading that went on, and of one that stopped.
+-- How reading is put together: a field and its test, one thing behind another, a value told otherwise; of each, where it
+-- is found, and where none is there.
 -- Assumes nothing.
-use Prim.Native.Nat.{ℕ, ◌+◌}
+use Prim.Native.Nat.{ℕ, ◌<◌}
 use native.Mathlib.Omega.{arith}
-use mathlib.Core.Path.{◌≡◌, refl, sym, subst}
-use mathlib.Core.Bool.{true, false}
-use mathlib.Core.List.{List, ◌++◌}
-use lib.ListN.{length, drop, length-append}
-use lib.Seq.{drop-drop}
-use Rattle.rows.specs.Rows.{Stands}
-use Rattle.rows.proofs.Answers.{no_answer}
-use Rattle.rows.proofs.Digits.{Bytes}
-use Rattle.reader.specs.declared.cursor.Cursor.{Cursor}
-use Rattle.reader.specs.Steps.{spot, halted, There, Reads}
-use Rattle.reader.specs.Steps.Reads.{there, halts}
-use Rattle.reader.proofs.Standing.{Unique, Field, field_stands, stands_both, encode_both, FitBoth, behind_first, Retold, stands_from}
+use mathlib.Core.Path.{◌≡◌, refl, sym, ap, subst, ◌∙◌}
+use mathlib.Core.Bool.{Bool, true, false}
+use mathlib.Core.List.{List, [], ◌∷◌, ◌++◌, append-nil, append_assoc}
+use lib.ListN.{length, take, drop, get_or, length-append, take-append-drop}
+use lib.Seq.{take_at}
+use Rattle.std.specs.Prelude.{Option, Some, None}
+use Rattle.std.specs.Bool.{then_some}
+use Rattle.rows.specs.Numbers.{bytes_of}
+use Rattle.format.specs.declared.Kind.{Kind}
+use Rattle.format.specs.Kinds.{kind_byte}
+use Rattle.reader.specs.Steps.{Found, Missing, Within, encode_kind, AnyKind}
+use Rattle.reader.proofs.Codes.{Unique, Fixed, byte_is, kind_within, encode_both, FitBoth, Retold, bytes_from}
 
--- A field at a spot.
-module _ {A : Type 0} {encode : A → List ℕ} {decode : List ℕ → A} {Fits : A → Type 0} {n : ℕ}
-    (field : Field encode decode Fits n) (s : List ℕ) (bytes : Bytes s) (c : Cursor) (v : A) where
-  -- where its bytes are there, and what they are read as fits, it is read
-  pub field_there : There n s c → decode (drop c.at s) ≡ v → Fits v → Reads encode Fits s c v (spot (c.at + n))
-  field_there here read fits =
-      subst (λ (k : ℕ). Reads encode Fits s c v (spot (c.at + k))) (field.width v)
-      (there here.0 fits ((field_stands field v c.at s bytes fits).1 (here.1, read)))
+-- bytes cut in two
+pub cut : (n : ℕ) (s : List ℕ) {front back : List ℕ} → front ≡ take n s → back ≡ drop n s → s ≡ front ++ back
+cut n s front back = sym (take-append-drop n s) ∙ (λ d. sym front d ++ sym back d)
 
-  -- otherwise reading stops
-  pub field_halts : (next : Cursor) → next ≡ halted → (There n s c → Fits (decode (drop c.at s)) → ⊥)
-      → Reads encode Fits s c v next
-  field_halts next e none =
-      subst (Reads encode Fits s c v) (sym e)
-      (halts (λ started w fits h.
-      let found = (field_stands field w c.at s bytes fits).0 h in
-      none (started, found.0) (subst Fits (sym found.1) fits)))
+-- what is handed out where a test says so
+pub handed : {A : Type 0} (P : Option A → Type 0) (b : Bool) {x : A} {r : Option A} → r ≡ then_some b x
+    → (b ≡ true → P (Some x)) → (b ≡ false → P None) → P r
+handed P true e yes-so not-so = subst P (sym e) (yes-so refl)
+handed P false e yes-so not-so = subst P (sym e) (not-so refl)
 
--- Reading went on: v fits and stands where it was read, and the spot is behind it.
-pub record Passed {A : Type 0} (encode : A → List ℕ) (Fits : A → Type 0) (s : List ℕ) (c : Cursor) (v : A) (next : Cursor) : Type 0 where
-  pub started : c.stopped ≡ false
-  pub fits : Fits v
-  pub stands : Stands (encode v) (drop c.at s)
-  pub behind : next ≡ spot (c.at + length (encode v))
+-- fewer bytes than a value that fits has are those of none
+pub too_short : {A : Type 0} {encode : A → List ℕ} {Fits : A → Type 0} {s : List ℕ} (n : ℕ)
+    → ((v : A) → Fits v → length (encode v) ≡ n) → length s < n → Missing encode Fits s
+too_short {encode = encode} n width short =
+    record {
+      none = λ v left found.
+          omega (arith, ap length found.bytes, length-append (encode v) left, width v found.fits, short);
+    }
 
-module _ {A : Type 0} {encode : A → List ℕ} {Fits : A → Type 0} {s : List ℕ} {c : Cursor} {v : A} where
-  -- a spot that has not stopped tells that reading went on
-  pub passed : {next : Cursor} → next.stopped ≡ false → Reads encode Fits s c v next → Passed encode Fits s c v next
-  passed on (there started fits h) = record { started = started; fits = fits; stands = h; behind = refl }
-  passed on (halts none) = absurd (no_answer true on refl)
+-- the field that the first bytes are read as does not fit: so none does
+pub unfit : {A : Type 0} {encode : A → List ℕ} {decode : List ℕ → A} {Fits : A → Type 0} {n : ℕ}
+    → Fixed encode decode Fits n → {s bytes : List ℕ} {v : A} → bytes ≡ take n s → v ≡ decode bytes → (Fits v → ⊥)
+    → Missing encode Fits s
+unfit {encode = encode} {decode} {Fits} {n} field first read wrong =
+    record {
+      none = λ w left found.
+          let own = encode w in
+          let whole = first ∙ ap (take n) found.bytes ∙ take_at own left n (field.width w) ∙ sym (append-nil own) in
+          wrong (subst Fits (sym (read ∙ ap decode whole ∙ field.back w found.fits [])) found.fits);
+    }
 
-  -- a cursor that has stopped stays so
-  pub stays : {next : Cursor} → c.stopped ≡ true → Reads encode Fits s c v next → next ≡ halted
-  stays stopped (there started fits h) = absurd (no_answer c.stopped started stopped)
-  stays stopped (halts none) = refl
+-- A byte that stands in front.
+module _ {s rest : List ℕ} {v : ℕ} (here : s ≡ v ∷ rest) where
+  own_byte : (w : ℕ) → w < 256 → w ≡ v → s ≡ bytes_of 1 w ++ rest
+  own_byte w small same = here ∙ (λ d. sym same d ∷ rest) ∙ ap (λ (l : List ℕ). l ++ rest) (sym (byte_is w small))
 
-  -- where reading stops, no value that fits has its bytes there
-  pub nothing_fits : {next : Cursor} → next.stopped ≡ true → Reads encode Fits s c v next → c.stopped ≡ false → (w : A) → Fits w
-      → Stands (encode w) (drop c.at s) → ⊥
-  nothing_fits stopped (there started fits h) = absurd (no_answer false refl stopped)
-  nothing_fits stopped (halts none) = none
+  -- no other does
+  same_byte : (w : ℕ) (left : List ℕ) → w < 256 → s ≡ bytes_of 1 w ++ left → w ≡ v
+  same_byte w left small bytes =
+      ap (λ (l : List ℕ). get_or l 0 0)
+      (ap (λ (l : List ℕ). l ++ left) (sym (byte_is w small)) ∙ sym bytes ∙ here)
 
-  -- where reading stops, what is read means nothing
-  pub any_value : {next : Cursor} (w : A) → next.stopped ≡ true → Reads encode Fits s c v next → Reads encode Fits s c w next
-  any_value w stopped (there started fits h) = absurd (no_answer false refl stopped)
-  any_value w stopped (halts none) = halts none
+  -- one in a range
+  module _ (least most : ℕ) (small : most < 256) where
+    pub byte_found : Within least most v → Found (bytes_of 1) (Within least most) s v rest
+    byte_found fits = record { fits = fits; bytes = own_byte v (omega (arith, fits.1)) refl }
 
--- One thing read behind another, where what may follow the first depends on it.
-module _ {A B : Type 0} {encodeA : A → List ℕ} {FitsA : A → Type 0} (unique : Unique encodeA FitsA)
-    (encodeB : A → B → List ℕ) (FitsB : A → B → Type 0) {s : List ℕ} {c : Cursor} {a : A} {b : B} where
-  -- the first was read
-  reads_behind : {last : Cursor} → c.stopped ≡ false → FitsA a → Stands (encodeA a) (drop c.at s)
-      → Reads (encodeB a) (FitsB a) s (spot (c.at + length (encodeA a))) b last
-      → Reads (encode_both encodeA encodeB) (FitBoth FitsA FitsB) s c (a, b) last
-  reads_behind started fits h (there going fits-b h-b) =
-      let end : c.at + length (encodeA a ++ encodeB a b) ≡ (c.at + length (encodeA a)) + length (encodeB a b) =
-      omega (arith, length-append (encodeA a) (encodeB a b)) in
-      let second : Stands (encodeB a b) (drop (length (encodeA a)) (drop c.at s)) = rw drop-drop h-b in
-      subst (λ (n : ℕ). Reads (encode_both encodeA encodeB) (FitBoth FitsA FitsB) s c (a, b) (spot n)) end
-      (there started (fits, fits-b) ((stands_both (encodeA a) (encodeB a b) (drop c.at s)).1 (h, second)))
-  reads_behind started fits h (halts none) =
-      halts (λ again p fits-p h-p.
-      let other = behind_first unique encodeB FitsB (drop c.at s) a p fits h fits-p h-p in
-      none refl p.1 other.1 (rw drop-drop at other.2))
+    pub byte_unfit : (Within least most v → ⊥) → Missing (bytes_of 1) (Within least most) s
+    byte_unfit wrong =
+        record {
+          none = λ w left found.
+              wrong (subst (Within least most) (same_byte w left (omega (arith, found.fits.1)) found.bytes) found.fits);
+        }
 
-  -- both are read as one
-  pub reads_both : {next last : Cursor} → Reads encodeA FitsA s c a next → Reads (encodeB a) (FitsB a) s next b last
-      → Reads (encode_both encodeA encodeB) (FitBoth FitsA FitsB) s c (a, b) last
-  reads_both (there started fits h) second = reads_behind started fits h second
-  reads_both (halts none) second =
-      subst (Reads (encode_both encodeA encodeB) (FitBoth FitsA FitsB) s c (a, b)) (sym (stays refl second))
-      (halts (λ started p fits h.
-      none started p.0 fits.0 ((stands_both (encodeA p.0) (encodeB p.0 p.1) (drop c.at s)).0 h).0))
+  -- a kind
+  pub kind_found : (k : Kind) → kind_byte k ≡ v → Found encode_kind AnyKind s k rest
+  kind_found k same = record { fits = tt; bytes = own_byte (kind_byte k) (omega (arith, (kind_within k).1)) same }
 
+  pub kind_unfit : ((k : Kind) → kind_byte k ≡ v → ⊥) → Missing encode_kind AnyKind s
+  kind_unfit wrong =
+      record {
+        none = λ k left found.
+            wrong k (same_byte (kind_byte k) left (omega (arith, (kind_within k).1)) found.bytes);
+      }
+
+-- One thing behind another.
+module _ {A B : Type 0} {encodeA : A → List ℕ} {FitsA : A → Type 0} (encodeB : A → B → List ℕ) (FitsB : A → B → Type 0)
+    {s : List ℕ} where
+  pub found_both : {a : A} {b : B} {t u : List ℕ} → Found encodeA FitsA s a t → Found (encodeB a) (FitsB a) t b u
+      → Found (encode_both encodeA encodeB) (FitBoth FitsA FitsB) s (a, b) u
+  found_both {a} {b} {u = u} first second =
+      record {
+        fits = (first.fits, second.fits);
+        bytes =
+            first.bytes ∙ ap (λ (l : List ℕ). encodeA a ++ l) second.bytes
+            ∙ sym (append_assoc (encodeA a) (encodeB a b) u);
+      }
+
+  -- the first is not there
+  pub missing_first : Missing encodeA FitsA s → Missing (encode_both encodeA encodeB) (FitBoth FitsA FitsB) s
+  missing_first missing =
+      record {
+        none = λ p left found.
+            missing.none p.0 (encodeB p.0 p.1 ++ left)
+            (record {
+              fits = found.fits.0;
+              bytes = found.bytes ∙ append_assoc (encodeA p.0) (encodeB p.0 p.1) left;
+            });
+      }
+
+  -- the second is not, behind the first
+  pub missing_second : {a : A} {t : List ℕ} → Unique encodeA FitsA → Found encodeA FitsA s a t
+      → Missing (encodeB a) (FitsB a) t → Missing (encode_both encodeA encodeB) (FitBoth FitsA FitsB) s
+  missing_second {a} {t} unique first missing =
+      record {
+        none = λ p left found.
+            let behind = encodeB p.0 p.1 ++ left in
+            let same =
+            unique.only p.0 a behind t found.fits.0 first.fits
+            (sym (append_assoc (encodeA p.0) (encodeB p.0 p.1) left) ∙ sym found.bytes ∙ first.bytes) in
+            let second : Found (encodeB p.0) (FitsB p.0) t p.1 left = record { fits = found.fits.1; bytes = sym same.1 } in
+            missing.none p.1 left (subst (λ (x : A). Found (encodeB x) (FitsB x) t p.1 left) same.0 second);
+      }
+
+-- A value told otherwise.
 module _ {A B : Type 0} {to : A → B} {from : B → A} {encodeA : A → List ℕ} {FitsA : A → Type 0}
-    {encodeB : B → List ℕ} {FitsB : B → Type 0} (told : Retold to from encodeA FitsA encodeB FitsB)
-    {s : List ℕ} {c : Cursor} {a : A} where
-  -- a value read is read as well when it is told otherwise
-  pub reads_retold : {next : Cursor} → Reads encodeA FitsA s c a next → Reads encodeB FitsB s c (to a) next
-  reads_retold (there started fits h) =
-      let same = told.bytes a fits in
-      subst (λ (l : List ℕ). Reads encodeB FitsB s c (to a) (spot (c.at + length l))) same
-      (there started (told.fits_to a fits) (subst (λ (l : List ℕ). Stands l (drop c.at s)) (sym same) h))
-  reads_retold (halts none) =
-      halts (λ started b fits h.
-      none started (from b) (told.fits_from b fits) (stands_from told b (drop c.at s) fits h))
+    {encodeB : B → List ℕ} {FitsB : B → Type 0} (told : Retold to from encodeA FitsA encodeB FitsB) {s : List ℕ} where
+  pub found_retold : {a : A} {left : List ℕ} → Found encodeA FitsA s a left → Found encodeB FitsB s (to a) left
+  found_retold {a} {left} found =
+      record {
+        fits = told.fits_to a found.fits;
+        bytes = found.bytes ∙ ap (λ (l : List ℕ). l ++ left) (sym (told.bytes a found.fits));
+      }
+
+  pub missing_retold : Missing encodeA FitsA s → Missing encodeB FitsB s
+  missing_retold missing =
+      record {
+        none = λ b left found.
+            missing.none (from b) left
+            (record {
+              fits = told.fits_from b found.fits;
+              bytes = found.bytes ∙ ap (λ (l : List ℕ). l ++ left) (bytes_from told b found.fits);
+            });
+      }

@@ -1,5 +1,5 @@
 -- Before as entries and as sixteen counts: each gives the other back, so Before is read by its entries and
--- at most one has the bytes that stand at a spot.
+-- bytes begin with at most one.
 -- Assumes nothing.
 use Prim.Native.Nat.{ℕ, zero, suc, ◌+◌, ◌-◌, ◌≤◌, ◌<◌, suc-le-suc}
 use native.Mathlib.Nat.{add-zero, add-suc, suc-add, zero-lt-suc}
@@ -8,19 +8,17 @@ use mathlib.Core.Path.{◌≡◌, refl, sym, ap, subst, ◌∙◌}
 use mathlib.Core.List.{List, [], ◌∷◌, ◌++◌, append-nil, append_assoc}
 use lib.ListN.{length, get_or, set, replicate, length-append, length-set, length-replicate, get_or-replicate, replicate-append-replicate}
 use lib.Seq.{set_at, append_snoc}
-use Rattle.rows.specs.Numbers.{bytes_of}
 use Rattle.rows.proofs.Slots.{Each, zeros}
 use Rattle.format.specs.declared.Entry.{Entry}
 use Rattle.format.specs.Patches.{encode_entry, entries_from, before_bytes}
 use Rattle.format.specs.WellFormed.{BeforeFits}
 use Rattle.format.proofs.Entries.{entries_first}
 use Rattle.format.proofs.Sizes.{entries_most}
-use Rattle.reader.specs.declared.cursor.Cursor.{Cursor}
 use Rattle.reader.specs.Read.{entered}
-use Rattle.reader.specs.Steps.{Reads, Within, EntryAbove}
-use Rattle.reader.proofs.Standing.{Unique, Retold}
+use Rattle.reader.specs.Steps.{Within, EntryAbove}
+use Rattle.reader.proofs.Codes.{Unique, Retold}
 use Rattle.reader.proofs.Sections.{unique_entry}
-use Rattle.reader.proofs.Repeated.{Elements, Behind, Listed, encode_counted, CountedFit, unique_section, section_read}
+use Rattle.reader.proofs.Repeated.{Elements, Behind, encode_counted, CountedFit, unique_section}
 use Rattle.reader.proofs.Repeated.Behind.{none, next}
 
 -- "sites rising strictly"
@@ -190,7 +188,7 @@ entries_entered : {es : List Entry} → Rising 0 es → entries_from 1 (entered 
 entries_entered rising = let whole = made [] refl rising in ap (entries_from 1) whole.all ∙ whole.back
 
 -- Before is told by how many entries it has, and these.
-before_told : Retold (λ p. entered (replicate 16 0) p.1) (λ counts. (length (entries_from 1 counts), entries_from 1 counts))
+pub before_told : Retold (λ p. entered (replicate 16 0) p.1) (λ counts. (length (entries_from 1 counts), entries_from 1 counts))
     (encode_counted entries) (CountedFit entries 0 16) before_bytes BeforeFits
 unfolding before_bytes
 before_told =
@@ -203,11 +201,6 @@ before_told =
       bytes = λ p fits. rw (entries_entered fits.1.1, fits.1.0);
     }
 
--- at most one Before stands at a spot
+-- bytes begin with at most one Before
 pub unique_before : Unique before_bytes BeforeFits
 unique_before = unique_section entries (omega arith) before_told
-
--- what a loop over the entries has read is Before
-pub before_read : {s : List ℕ} {c start end : Cursor} {n : ℕ} {counts : List ℕ} → Reads (bytes_of 1) (Within 0 16) s c n start
-    → Listed entries (λ es. counts ≡ entered (replicate 16 0) es) s start n end → Reads before_bytes BeforeFits s c counts end
-before_read = section_read entries (omega arith) before_told

@@ -1,9 +1,10 @@
 pub mod Back
+pub mod Codes
 pub mod Composed
 pub mod Counts
 pub mod Placed
 pub mod Readings
 pub mod Repeated
 pub mod Sections
-pub mod Standing
 pub mod Whole
+pub mod Taken

@@ -1,5 +1,5 @@
 -- The place as its identifiers and as eight slots: each gives the other back, so a place is read by its
--- identifiers and at most one has the bytes that stand at a spot.
+-- identifiers and bytes begin with at most one.
 -- Assumes nothing.
 use Prim.Native.Nat.{ℕ, zero, suc, ◌+◌, ◌-◌, ◌<◌, suc-le-suc}
 use native.Mathlib.Nat.{le_of_suc-le-suc, zero-lt-suc}
@@ -12,16 +12,14 @@ use lib.Seq.{take_at, get_or-append-add}
 use Rattle.position.specs.declared.Identifier.{Identifier}
 use Rattle.position.specs.Positions.{pad, ids_of, position_of, Proper}
 use Rattle.position.proofs.Ids.{ids_position}
-use Rattle.rows.specs.Numbers.{bytes_of}
 use Rattle.rows.proofs.Slots.{Each}
 use Rattle.script.specs.Lines.{encode_identifier}
 use Rattle.format.specs.Patches.{place_bytes}
 use Rattle.format.specs.Steps.{SlotFits, PlaceFits}
 use Rattle.format.proofs.Places.{slot_fits, ids_used, id_at, used_proper, unused_pad}
-use Rattle.reader.specs.declared.cursor.Cursor.{Cursor}
-use Rattle.reader.specs.Steps.{Reads, Within, encode_place}
-use Rattle.reader.proofs.Standing.{Unique, unique_identifier, Retold}
-use Rattle.reader.proofs.Repeated.{Elements, Behind, Listed, encode_counted, CountedFit, unique_section, section_read}
+use Rattle.reader.specs.Steps.{encode_place}
+use Rattle.reader.proofs.Codes.{Unique, unique_identifier, Retold}
+use Rattle.reader.proofs.Repeated.{Elements, Behind, encode_counted, CountedFit, unique_section}
 use Rattle.reader.proofs.Repeated.Behind.{none, next}
 
 -- an identifier fits whatever stands before it
@@ -56,7 +54,7 @@ slot_of ids n e proper k below =
     ∙ get_or-replicate (8 - length ids) behind pad pad (omega arith))
 
 -- A place is told by how many of its identifiers are used, and these.
-place_told : Retold (λ p. record { used = p.0; ids = (position_of p.1).ids }) (λ p. (p.used, ids_of p))
+pub place_told : Retold (λ p. record { used = p.0; ids = (position_of p.1).ids }) (λ p. (p.used, ids_of p))
     (encode_counted identifiers) (CountedFit identifiers 1 8) encode_place PlaceFits
 unfolding place_bytes
 place_told =
@@ -79,14 +77,6 @@ place_told =
       bytes = λ p fits. rw (take_at p.1 (replicate (8 - length p.1) pad) p.0 fits.1.0, fits.1.0);
     }
 
--- at most one place stands at a spot
+-- bytes begin with at most one place
 pub unique_place : Unique encode_place PlaceFits
 unique_place = unique_section identifiers (omega arith) place_told
-
--- what a loop over the identifiers has read is a place
-pub place_read : {s : List ℕ} {c start end : Cursor} {n : ℕ} {ids : List Identifier} → Reads (bytes_of 1) (Within 1 8) s c n start
-    → Listed identifiers (λ xs. ids ≡ (position_of xs).ids) s start n end
-    → Reads encode_place PlaceFits s c (record { used = n; ids = ids }) end
-place_read {n = n} count (xs, held, list) =
-    section_read identifiers (omega arith) place_told count
-    (xs, ap (λ (l : List Identifier). record { used = n; ids = l }) held, list)

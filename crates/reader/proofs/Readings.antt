@@ -3,24 +3,29 @@
 -- Assumes nothing.
 use Prim.Native.Nat.{ℕ, ◌≤◌}
 use native.Mathlib.Omega.{arith}
-use mathlib.Core.Path.{◌≡◌, refl, sym, subst, ◌∙◌}
+use mathlib.Core.Path.{◌≡◌, refl, sym, ap, subst, ◌∙◌}
 use mathlib.Core.Bool.{Bool, true, false, cond}
 use mathlib.Core.Logic.{ite, if_pos, if_neg}
 use mathlib.Core.List.{List, ◌++◌}
-use lib.ListN.{length, take, drop, get_or}
+use lib.ListN.{length, take, drop, get_or, take-append-drop}
 use lib.Seq.{take_at, take_all}
 use lib.Dec.{eqb}
-use borrow.Author.Tests.{eqb-true, eq-eqb}
+use borrow.Author.Tests.{eqb-true, eq-eqb, ne_eqb}
+use Rattle.std.specs.Prelude.{Some}
 use Rattle.rows.specs.Rows.{Stands}
 use Rattle.format.specs.declared.Patch.{Patch}
 use Rattle.format.specs.Patches.{patch_bytes}
 use Rattle.format.specs.WellFormed.{WellFormed}
 use Rattle.format.specs.Steps.{FieldsFit}
 use Rattle.format.proofs.Parts.{fields_agree}
+use Rattle.format.proofs.Sizes.{sizes}
 use Rattle.reader.specs.declared.Reading.{Reading}
-use Rattle.reader.specs.Read.{refused, FirstIs, first_is?, reading_of, patch_in, text_in, line_in, read_first, read_one}
+use Rattle.reader.specs.Read.{refused, FirstIs, first_is?, reading_of, patch_in, text_in, line_in, read_first, read_one, taken, given}
 use Rattle.reader.proofs.Back.{patch_back, beside_back}
-use Rattle.reader.proofs.Standing.{stands_whole}
+
+-- what bytes stand in is they and what is behind them
+pub stands_whole : (a s : List ℕ) → Stands a s → a ++ drop (length a) s ≡ s
+stands_whole a s h = ap (λ (l : List ℕ). l ++ drop (length a) s) (sym h) ∙ take-append-drop (length a) s
 
 -- A well-formed patch whose bytes stand at the front is what is read.
 
@@ -92,3 +97,31 @@ one_reads_back p text good =
     let bytes = patch_bytes p text in
     let first : read_first bytes ≡ reading_of p text = is_read bytes p text (good, take_all (length bytes) bytes (omega arith)) in
     rw (first, eq-eqb (length bytes) (length bytes) refl)
+
+-- What a caller is handed says all of it: where there is no reading, the definition's is the refused one.
+
+-- a patch that is read has bytes, so it is handed out
+pub taken_read : (p : Patch) (text : List ℕ) → WellFormed p text → taken (reading_of p text) ≡ Some (reading_of p text)
+taken_read p text good =
+    let some : eqb (length (patch_bytes p text)) 0 ≡ false = ne_eqb (length (patch_bytes p text)) 0 (λ e. omega (arith, e, (sizes p text good).0)) in
+    rw some refl
+
+pub given_first : (s : List ℕ) → given (taken (read_first s)) ≡ read_first s
+unfolding read_first
+given_first s =
+    let p = patch_in s in
+    let text = text_in (get_or s 0 0) (line_in s) in
+    by p text (first_is? s p text)
+  where
+    by : (p : Patch) (text : List ℕ) (first : Dec (FirstIs s p text))
+        → given (taken (ite first (reading_of p text) refused)) ≡ ite first (reading_of p text) refused
+    by p text (yes (good, stands)) = ap given (taken_read p text good)
+    by p text (no wrong) = refl
+
+pub given_one : (s : List ℕ) → given (taken (read_one s)) ≡ read_one s
+unfolding read_one
+given_one s = by (eqb (read_first s).used (length s))
+  where
+    by : (all : Bool) → given (taken (cond all (read_first s) refused)) ≡ cond all (read_first s) refused
+    by true = given_first s
+    by false = refl

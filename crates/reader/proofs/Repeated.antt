@@ -1,26 +1,19 @@
--- Elements read one behind the other, as many as a count in front of them says: at most one such list
--- stands at a spot, what a loop that reads them has after each turn, what it gives where it stops and at
--- the end, and the section that is told by the count and the list. Of any element; whether one fits may
--- depend on the one before it.
+-- Elements read one behind the other, as many as a count in front of them says: at most one such list is told by
+-- the bytes, what a loop that reads them has after each turn, and the section that is told by the count and the
+-- list. Of any element; whether one fits may depend on the one before it.
 -- Assumes nothing.
-use Prim.Native.Nat.{ℕ, ◌+◌, ◌≤◌, ◌<◌}
-use native.Mathlib.Nat.{add-zero, le_of_suc-le-suc}
+use Prim.Native.Nat.{ℕ, ◌+◌, ◌<◌}
+use native.Mathlib.Nat.{le_of_suc-le-suc, suc_inj}
 use native.Mathlib.Omega.{arith}
-use mathlib.Core.Path.{◌≡◌, refl, sym, ap, subst, subst₃, ◌∙◌}
-use mathlib.Core.Bool.{true, false}
-use mathlib.Core.List.{List, [], ◌∷◌, ◌++◌, append-nil}
-use lib.ListN.{length, take, drop, length-append}
-use lib.Seq.{drop-drop, take_all, take_at}
+use mathlib.Core.Path.{◌≡◌, refl, sym, ap, subst, ◌∙◌}
+use mathlib.Core.List.{List, [], ◌∷◌, ◌++◌, append-nil, append_assoc}
+use lib.ListN.{length, length-append}
 use Rattle.rows.specs.Numbers.{bytes_of}
-use Rattle.rows.specs.Rows.{flat, Stands}
-use Rattle.rows.proofs.Answers.{no_answer}
+use Rattle.rows.specs.Rows.{flat}
 use Rattle.rows.proofs.Slots.{flat_append}
-use Rattle.reader.specs.declared.cursor.Cursor.{Cursor}
-use Rattle.reader.specs.Steps.{spot, halted, Reads, Within}
-use Rattle.reader.specs.Steps.Reads.{there, halts}
-use Rattle.reader.proofs.Standing.{Unique, stands_both, behind_first, unique_byte}
-use Rattle.reader.proofs.Standing.{encode_both, FitBoth, unique_both, Retold, unique_retold}
-use Rattle.reader.proofs.Composed.{reads_both, reads_retold}
+use Rattle.reader.specs.Steps.{Found, Missing, Within}
+use Rattle.reader.proofs.Codes.{Unique, unique_byte, encode_both, FitBoth, unique_both, Retold, unique_retold}
+use Rattle.reader.proofs.Composed.{found_both, missing_first, missing_second, found_retold, missing_retold}
 
 -- What is read: `After last x` says that x fits behind an element whose mark is `last`.
 pub record Elements (A : Type 0) : Type 1 where
@@ -61,121 +54,81 @@ module _ {A : Type 0} (E : Elements A) (x : A) where
   unfolding flat
   bytes_more xs = rw (flat_append, append-nil)
 
--- What the list ys, which stands where xs does, has beyond xs.
-record Beyond {A : Type 0} (E : Elements A) (s : List ℕ) (last : ℕ) (xs ys : List A) : Type 0 where
-  rest : List A
-  whole : ys ≡ xs ++ rest
-  fits : Behind E (last_mark E last xs) rest
-  stands : Stands (flat E.encode rest) (drop (length (flat E.encode xs)) s)
-
 module _ {A : Type 0} (E : Elements A) where
-  -- lists that stand at one spot agree as far as both go
-  agree : (s : List ℕ) {last : ℕ} {xs ys : List A} → length xs ≤ length ys → Behind E last xs → Behind E last ys
-      → Stands (flat E.encode xs) s → Stands (flat E.encode ys) s → Beyond E s last xs ys
-  unfolding flat last_mark
-  agree s {ys = ys} most none fits h k = record { rest = ys; whole = refl; fits = fits; stands = k }
-  agree s most (next here later) none h k = absurd (omega arith)
-  agree s {last = last} most (next {x = x} {xs = xs} here later) (next {x = y} {xs = ys} its behind) h k =
-      let bytes = flat E.encode in
-      let parts = (stands_both (E.encode x) (bytes xs) s).0 h in
-      let other =
-      behind_first (E.unique last) (λ _. bytes) (λ z. Behind E (E.mark z)) s x (y, ys) here parts.0 (its, behind) k in
-      let beyond = agree (drop (length (E.encode x)) s) (le_of_suc-le-suc most) later other.1 parts.1 other.2 in
-      record {
-        rest = beyond.rest;
-        whole = λ i. other.0 i ∷ beyond.whole i;
-        fits = beyond.fits;
-        stands = rw (length-append, ← drop-drop) beyond.stands;
-      }
-
-  -- at most one list of n elements stands at a spot
-  unique_list : (n : ℕ) → Unique (flat E.encode) (ListFits E n)
-  unique_list n s xs ys (size, fits) (as_long, fit) h k =
-      let beyond = agree s (omega arith) fits fit h k in
-      sym (take_at xs beyond.rest n size) ∙ ap (take n) (sym beyond.whole) ∙ take_all n ys (omega arith)
-
-  -- where no element that fits stands behind xs, no longer list stands there
-  none_beyond : (s : List ℕ) (last : ℕ) (xs ys : List A) → length xs < length ys → Beyond E s last xs ys
-      → ((x : A) → E.After (last_mark E last xs) x → Stands (E.encode x) (drop (length (flat E.encode xs)) s) → ⊥) → ⊥
+  -- the first elements of lists with the same bytes are one
+  first_same : {last : ℕ} {x y : A} (xs ys : List A) (s t : List ℕ) → E.After last x → E.After last y
+      → flat E.encode (x ∷ xs) ++ s ≡ flat E.encode (y ∷ ys) ++ t
+      → (x ≡ y) × (flat E.encode xs ++ s ≡ flat E.encode ys ++ t)
   unfolding flat
-  none_beyond s last xs ys longer beyond nothing =
-      first beyond.fits (omega (arith, ap length beyond.whole, length-append xs beyond.rest)) beyond.stands
-    where
-      behind : List ℕ
-      behind = drop (length (flat E.encode xs)) s
+  first_same {last} {x} {y} xs ys s t here its e =
+      (E.unique last).only x y (flat E.encode xs ++ s) (flat E.encode ys ++ t) here its
+      (sym (append_assoc (E.encode x) (flat E.encode xs) s) ∙ e ∙ append_assoc (E.encode y) (flat E.encode ys) t)
 
-      first : {rest : List A} → Behind E (last_mark E last xs) rest → 0 < length rest → Stands (flat E.encode rest) behind → ⊥
-      first none some h = omega arith
-      first (next {x = x} {xs = later} fits _) some h =
-          nothing x fits ((stands_both (E.encode x) (flat E.encode later) behind).0 h).0
+  -- bytes begin with at most one list of as many
+  same_list : {last : ℕ} {xs ys : List A} (s t : List ℕ) → length xs ≡ length ys → Behind E last xs → Behind E last ys
+      → flat E.encode xs ++ s ≡ flat E.encode ys ++ t → (xs ≡ ys) × (s ≡ t)
+  unfolding flat
+  same_list s t size none none e = (refl, e)
+  same_list s t size none (next its behind) e = absurd (omega (arith, size))
+  same_list s t size (next here later) none e = absurd (omega (arith, size))
+  same_list s t size (next {x = x} {xs = xs} here later) (next {x = y} {xs = ys} its behind) e =
+      let one = first_same xs ys s t here its e in
+      let behind-x = subst (λ (z : A). Behind E (E.mark z) ys) (sym one.0) behind in
+      let rest = same_list s t (suc_inj size) later behind-x one.1 in
+      (λ i. one.0 i ∷ rest.0 i, rest.1)
 
--- What a loop that reads from `start` on has after i turns, and where it is: nothing where it started
--- stopped, otherwise i elements. `Held` is what it keeps of them.
-pub data Turn {A : Type 0} (E : Elements A) (Held : List A → Type 0) (s : List ℕ) : Cursor → ℕ → ℕ → Cursor → Type 0 where
-  idle : Held [] → Turn E Held s halted 0 0 halted
-  read : {start : ℕ} {xs : List A} → Behind E 0 xs → Stands (flat E.encode xs) (drop start s) → Held xs
-      → Turn E Held s (spot start) (length xs) (last_mark E 0 xs) (spot (start + length (flat E.encode xs)))
+  unique_list : (n : ℕ) → Unique (flat E.encode) (ListFits E n)
+  unique_list n =
+      record { only = λ xs ys s t fits-x fits-y. same_list s t (fits-x.0 ∙ sym fits-y.0) fits-x.1 fits-y.1 }
 
--- What it gives: a list that it holds, read as n elements or not at all.
-abbrev pub Listed : {A : Type 0} → Elements A → (List A → Type 0) → List ℕ → Cursor → ℕ → Cursor → Type 0
-Listed {A} E Held s start n end = (xs : List A) × Held xs × Reads (flat E.encode) (ListFits E n) s start xs end
-
--- nothing is read where reading has stopped
-none_read : {A : Type 0} {encode : A → List ℕ} {Fits : A → Type 0} {s : List ℕ} {v : A} → Reads encode Fits s halted v halted
-none_read = halts (λ started. absurd (no_answer true started refl))
-
-module _ {A : Type 0} {E : Elements A} {Held : List A → Type 0} {s : List ℕ} where
-  -- before the first turn, behind anything that was read
-  pub first_turn : {B : Type 0} {encodeB : B → List ℕ} {Fits : B → Type 0} {c : Cursor} {v : B} {start : Cursor} → Held []
-      → Reads encodeB Fits s c v start → Turn E Held s start 0 0 start
+  -- where no element that fits is behind xs, no longer list is there
+  none_longer : {last : ℕ} {xs ys : List A} (s t : List ℕ) → length xs < length ys → Behind E last xs → Behind E last ys
+      → flat E.encode xs ++ s ≡ flat E.encode ys ++ t → Missing E.encode (E.After (last_mark E last xs)) s → ⊥
   unfolding flat last_mark
-  first_turn {encodeB = encodeB} {c = c} {v = v} held (there started fits h) =
-      let at = c.at + length (encodeB v) in
-      subst (λ (n : ℕ). Turn E Held s (spot at) 0 0 (spot n)) (add-zero at) (read none refl held)
-  first_turn held (halts nothing) = idle held
+  none_longer s t less none none e missing = omega (arith, less)
+  none_longer s t less none (next {x = y} {xs = ys} its behind) e missing =
+      missing.none y (flat E.encode ys ++ t)
+      (record { fits = its; bytes = e ∙ append_assoc (E.encode y) (flat E.encode ys) t })
+  none_longer s t less (next here later) none e missing = omega (arith, less)
+  none_longer s t less (next {x = x} {xs = xs} here later) (next {x = y} {xs = ys} its behind) e missing =
+      let one = first_same xs ys s t here its e in
+      let behind-x = subst (λ (z : A). Behind E (E.mark z) ys) (sym one.0) behind in
+      none_longer s t (le_of_suc-le-suc less) later behind-x one.1 missing
 
-  -- a loop goes on only where it started
-  pub turn_started : {start c : Cursor} {i last : ℕ} → Turn E Held s start i last c → c.stopped ≡ false → start.stopped ≡ false
-  turn_started (idle held) on = on
-  turn_started (read behind stands held) on = refl
+-- What a loop that reads from bytes s on has after i turns: i elements, the mark of the last, and what is left of
+-- the bytes. `Held` is what it keeps of the elements.
+pub record Turn {A : Type 0} (E : Elements A) (Held : List A → Type 0) (s : List ℕ) (i last : ℕ) (left : List ℕ) : Type 0 where
+  pub xs : List A
+  pub size : length xs ≡ i
+  pub fits : Behind E 0 xs
+  pub mark : last_mark E 0 xs ≡ last
+  pub held : Held xs
+  pub bytes : s ≡ flat E.encode xs ++ left
+
+module _ {A : Type 0} {E : Elements A} {Held : List A → Type 0} where
+  -- before the first turn
+  pub first_turn : {s : List ℕ} → Held [] → Turn E Held s 0 0 s
+  unfolding flat last_mark
+  first_turn held = record { xs = []; size = refl; fits = none; mark = refl; held = held; bytes = refl }
 
   -- one turn more
-  pub turn_more : {Held' : List A → Type 0} {start c : Cursor} {i last : ℕ} {x : A} {end : Cursor}
+  pub turn_more : {Held' : List A → Type 0} {s : List ℕ} {i last : ℕ} {left : List ℕ} {x : A} {end : List ℕ}
+      → Turn E Held s i last left → Found E.encode (E.After last) left x end
       → ((xs : List A) → length xs ≡ i → Held xs → Held' (xs ++ (x ∷ [])))
-      → Turn E Held s start i last c → Reads E.encode (E.After last) s c x end → end.stopped ≡ false
-      → Turn E Held' s start (i + 1) (E.mark x) end
-  turn_more keep (idle held) (there started fits h) on = absurd (no_answer true started refl)
-  turn_more keep (idle held) (halts nothing) on = absurd (no_answer true on refl)
-  turn_more {Held'} {x = x} keep (read {start = start} {xs = xs} behind stands held) (there started fits h) on =
-      let bytes = flat E.encode in
-      let both : Stands (bytes xs ++ E.encode x) (drop start s) =
-      (stands_both (bytes xs) (E.encode x) (drop start s)).1 (stands, rw drop-drop h) in
-      let end : start + length (bytes (xs ++ (x ∷ []))) ≡ start + length (bytes xs) + length (E.encode x) =
-      omega (arith, ap length (bytes_more E x xs), length-append (bytes xs) (E.encode x)) in
-      subst₃ (λ (i last at : ℕ). Turn E Held' s (spot start) i last (spot at))
-      (length-append xs (x ∷ [])) (mark_more E x 0 xs) end
-      (read (behind_more E x behind fits) (rw (bytes_more E x xs) both) (keep xs refl held))
-  turn_more keep (read behind stands held) (halts nothing) on = absurd (no_answer true on refl)
-
-  -- it stops before n elements are read
-  pub turn_stops : {start c : Cursor} {i last n : ℕ} {x : A} {end : Cursor} → i < n → Turn E Held s start i last c
-      → Reads E.encode (E.After last) s c x end → end.stopped ≡ true → Listed E Held s start n end
-  turn_stops less (idle held) (there started fits h) stopped = absurd (no_answer false refl stopped)
-  turn_stops less (idle held) (halts nothing) stopped = ([], held, none_read)
-  turn_stops less (read behind stands held) (there started fits h) stopped = absurd (no_answer false refl stopped)
-  turn_stops less (read {start = start} {xs = xs} behind stands held) (halts nothing) stopped = (
-    xs,
-    held,
-    halts (λ started ys fits h.
-        let at = drop start s in
-        let beyond = agree E at (omega arith) behind fits.1 stands h in
-        none_beyond E at 0 xs ys (omega arith) beyond (λ x fit k. nothing refl x fit (rw drop-drop at k))),
-  )
-
-  -- n elements are read
-  pub turn_ends : {start c : Cursor} {i last n : ℕ} → i ≡ n → Turn E Held s start i last c → Listed E Held s start n c
-  turn_ends all (idle held) = ([], held, none_read)
-  turn_ends all (read {xs = xs} behind stands held) = (xs, held, there refl (all, behind) stands)
+      → Turn E Held' s (i + 1) (E.mark x) end
+  turn_more {x = x} {end} turn found keep =
+      let xs = turn.xs in
+      record {
+        xs = xs ++ (x ∷ []);
+        size = length-append xs (x ∷ []) ∙ ap (λ (n : ℕ). n + 1) turn.size;
+        fits = behind_more E x turn.fits (subst (λ (n : ℕ). E.After n x) (sym turn.mark) found.fits);
+        mark = mark_more E x 0 xs;
+        held = keep xs turn.size turn.held;
+        bytes =
+            turn.bytes ∙ ap (λ (l : List ℕ). flat E.encode xs ++ l) found.bytes
+            ∙ sym (append_assoc (flat E.encode xs) (E.encode x) end)
+            ∙ ap (λ (l : List ℕ). l ++ end) (sym (bytes_more E x xs));
+      }
 
 -- A section: a count, then as many elements.
 
@@ -188,13 +141,32 @@ CountedFit E least most = FitBoth (Within least most) (ListFits E)
 -- and the value that is told by both
 module _ {A B : Type 0} (E : Elements A) {least most : ℕ} (small : most < 256) {to : ℕ × List A → B} {from : B → ℕ × List A}
     {encodeB : B → List ℕ} {Fits : B → Type 0} (told : Retold to from (encode_counted E) (CountedFit E least most) encodeB Fits) where
-  -- at most one value stands at a spot
+  -- bytes begin with at most one
   pub unique_section : Unique encodeB Fits
   unique_section = unique_retold told (unique_both (unique_byte least most small) (λ _. flat E.encode) (ListFits E) (λ n _. unique_list E n))
 
-  -- a count, and what a loop has read behind it, are the value
-  pub section_read : {s : List ℕ} {c start end : Cursor} {n : ℕ} {v : B} → Reads (bytes_of 1) (Within least most) s c n start
-      → Listed E (λ xs. v ≡ to (n, xs)) s start n end → Reads encodeB Fits s c v end
-  section_read {s = s} {c = c} {end = end} count (xs, same, list) =
-      subst (λ (v : B). Reads encodeB Fits s c v end) (sym same)
-      (reads_retold told (reads_both (unique_byte least most small) (λ _. flat E.encode) (ListFits E) count list))
+  -- the count is not there
+  pub section_none : {s : List ℕ} → Missing (bytes_of 1) (Within least most) s → Missing encodeB Fits s
+  section_none missing = missing_retold told (missing_first (λ _. flat E.encode) (ListFits E) missing)
+
+  module _ {Held : List A → Type 0} {s t left : List ℕ} {n i last : ℕ}
+      (count : Found (bytes_of 1) (Within least most) s n t) (turn : Turn E Held t i last left) where
+    -- the loop stops before it has as many
+    pub section_stops : i < n → Missing E.encode (E.After last) left → Missing encodeB Fits s
+    section_stops less missing =
+        let nothing = subst (λ (m : ℕ). Missing E.encode (E.After m) left) (sym turn.mark) missing in
+        missing_retold told
+        (missing_second (λ _. flat E.encode) (ListFits E) (unique_byte least most small) count
+        (record {
+          none = λ ys rest found.
+              none_longer E left rest (omega (arith, turn.size, found.fits.0, less)) turn.fits found.fits.1
+              (sym turn.bytes ∙ found.bytes) nothing;
+        }))
+
+    -- it has as many
+    pub section_ends : {v : B} → i ≡ n → ((xs : List A) → Held xs → v ≡ to (n, xs)) → Found encodeB Fits s v left
+    section_ends all same =
+        subst (λ (v : B). Found encodeB Fits s v left) (sym (same turn.xs turn.held))
+        (found_retold told
+        (found_both (λ _. flat E.encode) (ListFits E) count
+        (record { fits = (turn.size ∙ all, turn.fits); bytes = turn.bytes })))

@@ -4,7 +4,7 @@
 -- The patch that bytes would be is put together from what stands at each field's place, whatever it is;
 -- it is what was read if it is well-formed and its own bytes are the first of those given.
 -- Assumes nothing.
-use Rattle.std.specs.Prelude.{ℕ, ◌+◌, ◌-◌, ◌*◌, cond, eqb, length, take, drop, get_or, set, replicate}
+use Rattle.std.specs.Prelude.{ℕ, ◌+◌, ◌-◌, ◌*◌, cond, eqb, length, take, drop, get_or, set, replicate, Option, None, Some}
 use Rattle.std.proofs.Math.Decide.{ℕ_discrete}
 use Rattle.std.proofs.Math.Logic.{ite}
 use Rattle.std.proofs.Math.Logic.Dec
@@ -99,3 +99,12 @@ read_first s =
 -- exactly one patch: "a byte left over [..] is malformed"
 unfoldable pub read_one : List ℕ → Reading
 read_one s = cond (eqb (read_first s).used (length s)) (read_first s) refused
+
+-- what a caller is handed: a reading, where bytes were used; refused, none
+abbrev pub taken : Reading → Option Reading
+taken reading = cond (eqb reading.used 0) None (Some reading)
+
+-- and what 01 has for it: "all zeros" where there is none
+abbrev pub given : Option Reading → Reading
+given None = refused
+given (Some reading) = reading

@@ -1,370 +1,247 @@
 // The reading spot (01, 'Patch layout'): "Each field read moves the reading spot on and gives it back."
 // A cursor by value; each method reads one field, or one section made of fields, tests its range, and
-// gives what was read with the spot behind it. Where the bytes are not there or out of range reading
-// stops. A cursor that has stopped stays so, and what is read from it means nothing: a reader looks
-// once, at the end.
-ghost use Rattle.std.specs.Prelude.{◌≡◌, true, ◌↔◌, ◌≤◌};
+// gives what was read with the spot behind it. Where the bytes are not there or out of range, there is none.
+ghost use Rattle.std.specs.Prelude.{◌≡◌, ◌≤◌, length};
 ghost use Rattle.position.specs.Positions.{Proper};
-ghost use Rattle.rows.specs.Numbers.{bytes_of};
-ghost use Rattle.script.specs.Lines.{encode_identifier};
+ghost use Rattle.rows.specs.Numbers.{num_at, bytes_of};
+ghost use Rattle.script.specs.Lines.{encode_identifier, decode_identifier};
 ghost use Rattle.format.specs.Patches.{encode_entry, before_bytes};
 ghost use Rattle.format.specs.WellFormed.{NumberFits, BeforeFits};
 ghost use Rattle.format.specs.Steps.{PlaceFits};
-ghost use Rattle.reader.specs.Steps.{spot, halted, There, Reads, Within, EntryAbove, encode_head, KindAndHead, encode_place, encode_line, LineOfKind};
+ghost use Rattle.reader.specs.Steps.{Reads, Within, encode_kind, AnyKind, encode_head, HeadFits, EntryAbove};
+ghost use Rattle.reader.specs.Steps.{encode_place, encode_line, LineOfKind};
 
 use format::rules::{identifier_fits, number_fits};
-use format::{Edit, Entry, IDENTIFIER, TEXT};
+use format::{Edit, Entry, IDENTIFIER, Kind, TEXT};
 use position::{Identifier, Position};
 use record::SITES;
 use rows::moves::copy_front;
-use rows::numbers::{number_2, number_4};
+use rows::numbers::Number;
 
+// The spot: what has still to be read.
 #[derive(Clone, Copy)]
-pub struct Cursor {
-    pub at: usize,
-    pub stopped: bool,
+pub struct Cursor<'a> {
+    pub rest: &'a [u8],
 }
 
-// What was read, and the spot behind it: of a field ..
-
+// What was read, and the spot behind it.
 #[derive(Clone, Copy)]
-pub struct ByteField {
-    pub value: u8,
-    pub next: Cursor,
+pub struct Field<'a, T> {
+    pub value: T,
+    pub next: Cursor<'a>,
 }
 
-#[derive(Clone, Copy)]
-pub struct NumberField {
-    pub value: u32,
-    pub next: Cursor,
-}
-
-#[derive(Clone, Copy)]
-pub struct IdentifierField {
-    pub value: Identifier,
-    pub next: Cursor,
-}
-
-// .. and of what is made of fields.
-
-#[derive(Clone, Copy)]
-pub struct EntryField {
-    pub value: Entry,
-    pub next: Cursor,
-}
-
-#[derive(Clone, Copy)]
+// The first section.
+#[derive(Clone, Copy, Debug)]
 pub struct Head {
-    pub kind: u8,
+    pub kind: Kind,
     pub author: u8,
     pub number: u32,
 }
 
-#[derive(Clone, Copy)]
-pub struct HeadField {
-    pub value: Head,
-    pub next: Cursor,
-}
-
-#[derive(Clone, Copy)]
-pub struct BeforeField {
-    pub value: [u32; SITES],
-    pub next: Cursor,
-}
-
-#[derive(Clone, Copy)]
-pub struct PlaceField {
-    pub value: Position,
-    pub next: Cursor,
-}
-
 // The last section: the edit, and the text beside it.
-#[derive(Clone, Copy)]
+#[derive(Clone, Copy, Debug)]
 pub struct Line {
     pub edit: Edit,
     pub text: [u8; TEXT],
 }
 
-#[derive(Clone, Copy)]
-pub struct LineField {
-    pub value: Line,
-    pub next: Cursor,
-}
-
-impl Cursor {
+impl<'a> Cursor<'a> {
     // The spot at which reading starts.
-    pub fn start() -> Cursor
-        ensures { result ≡ spot 0 }
+    pub fn start(s: &'a [u8]) -> Cursor<'a>
+        ensures { result.rest.now ≡ s.now }
     {
-        Cursor {
-            at: 0,
-            stopped: false,
-        }
+        Cursor { rest: s }
     }
 
-    // Where reading has stopped.
-    fn halted() -> Cursor
-        ensures { result ≡ halted }
+    // A byte from `least` to `most`: the count byte of a section.
+    fn count(self, least: u8, most: u8) -> Option<Field<'a, u8>>
+        ensures { Reads (bytes_of 1) (Within least most) self.entry.rest.now result }
     {
-        Cursor {
-            at: 0,
-            stopped: true,
-        }
-    }
-
-    // Whether n bytes are there to be read.
-    fn has(self, s: &[u8], n: usize) -> bool
-        ensures { (result ≡ true) ↔ There n s.now self }
-    {
-        if self.stopped {
-            return false;
-        }
-        if s.len() < n {
-            return false;
-        }
-        self.at <= s.len() - n
-    }
-
-    // A byte from `least` to `most`: a kind, or the count byte of a section.
-    pub fn count(self, s: &[u8], least: u8, most: u8) -> ByteField
-        ensures { Reads (bytes_of 1) (Within least most) s.now self result.value result.next }
-    {
-        if self.has(s, 1) {
-            let at = self.at;
-            let value = s[at];
-            if least <= value {
-                if value <= most {
-                    return ByteField {
-                        value,
-                        next: Cursor {
-                            at: at + 1,
-                            stopped: false,
-                        },
-                    };
-                }
-            }
-        }
-        ByteField {
-            value: 0,
-            next: Cursor::halted(),
-        }
+        let (value, rest) = self.rest.split_first()?;
+        (least..=most).contains(value).then_some(Field {
+            value: *value,
+            next: Cursor { rest },
+        })
     }
 
     // A site, from `least` on.
-    pub fn site(self, s: &[u8], least: u8) -> ByteField
-        ensures { Reads (bytes_of 1) (Within least 16) s.now self result.value result.next }
+    fn site(self, least: u8) -> Option<Field<'a, u8>>
+        ensures { Reads (bytes_of 1) (Within least 16) self.entry.rest.now result }
     {
-        self.count(s, least, SITES as u8)
+        self.count(least, SITES as u8)
     }
 
     // A patch's number, or a count of Before: 1 to 1,000,000.
-    pub fn number(self, s: &[u8]) -> NumberField
-        ensures { Reads (bytes_of 4) NumberFits s.now self result.value result.next }
+    fn number(self) -> Option<Field<'a, u32>>
+        ensures { Reads (bytes_of 4) NumberFits self.entry.rest.now result }
     {
-        if self.has(s, 4) {
-            let at = self.at;
-            let value = number_4(s, at);
-            if number_fits(value) {
-                return NumberField {
-                    value,
-                    next: Cursor {
-                        at: at + 4,
-                        stopped: false,
-                    },
-                };
-            }
-        }
-        NumberField {
-            value: 0,
-            next: Cursor::halted(),
-        }
+        let (bytes, rest) = self.rest.split_at_checked(4)?;
+        let value = number_in(bytes);
+        number_fits(value).then_some(Field {
+            value,
+            next: Cursor { rest },
+        })
     }
 
     // An identifier: the pad, or both parts in range.
-    pub fn identifier(self, s: &[u8]) -> IdentifierField
-        ensures { Reads encode_identifier Proper s.now self result.value result.next }
+    fn identifier(self) -> Option<Field<'a, Identifier>>
+        ensures { Reads encode_identifier Proper self.entry.rest.now result }
     {
-        if self.has(s, IDENTIFIER) {
-            let at = self.at;
-            let value = Identifier {
-                integer: number_2(s, at),
-                site: s[at + 2],
-            };
-            if identifier_fits(value) {
-                return IdentifierField {
-                    value,
-                    next: Cursor {
-                        at: at + IDENTIFIER,
-                        stopped: false,
-                    },
-                };
-            }
-        }
-        IdentifierField {
-            value: Identifier {
-                integer: 0,
-                site: 0,
-            },
-            next: Cursor::halted(),
-        }
+        let (bytes, rest) = self.rest.split_at_checked(IDENTIFIER)?;
+        let value = identifier_in(bytes);
+        identifier_fits(value).then_some(Field {
+            value,
+            next: Cursor { rest },
+        })
+    }
+
+    // The kind of a patch.
+    fn kind(self) -> Option<Field<'a, Kind>>
+        ensures { Reads encode_kind AnyKind self.entry.rest.now result }
+    {
+        let (byte, rest) = self.rest.split_first()?;
+        let value = Kind::try_from(*byte).ok()?;
+        Some(Field {
+            value,
+            next: Cursor { rest },
+        })
     }
 
     // The head: kind, author, number.
-    #[tactic(auto, using(crate::proofs::Sections::head_read))]
-    pub fn head(self, s: &[u8]) -> HeadField
-        ensures { Reads encode_head KindAndHead s.now self result.value result.next }
+    #[tactic(auto, using(crate::proofs::Sections::head_rules))]
+    pub fn head(self) -> Option<Field<'a, Head>>
+        ensures { Reads encode_head HeadFits self.entry.rest.now result }
     {
-        let kind = self.count(s, 1, 2);
-        let author = kind.next.site(s, 1);
-        let number = author.next.number(s);
-        let next = number.next;
-        HeadField {
+        let kind = self.kind()?;
+        let author = kind.next.site(1)?;
+        let number = author.next.number()?;
+        Some(Field {
             value: Head {
                 kind: kind.value,
                 author: author.value,
                 number: number.value,
             },
-            next,
-        }
+            next: number.next,
+        })
     }
 
     // An entry of Before whose site is above the last one.
-    #[tactic(auto, using(crate::proofs::Sections::entry_read))]
-    fn entry(self, s: &[u8], last: u8) -> EntryField
+    #[tactic(auto, using(crate::proofs::Sections::entry_rules))]
+    fn entry(self, last: u8) -> Option<Field<'a, Entry>>
         requires { last ≤ 16 }
-        ensures { Reads encode_entry (EntryAbove last) s.now self result.value result.next }
+        ensures { Reads encode_entry (EntryAbove last) self.entry.rest.now result }
     {
-        let site = self.site(s, last + 1);
-        let count = site.next.number(s);
-        let next = count.next;
-        EntryField {
+        let site = self.site(last + 1)?;
+        let count = site.next.number()?;
+        Some(Field {
             value: Entry {
                 site: site.value,
                 count: count.value,
             },
-            next,
-        }
+            next: count.next,
+        })
     }
 
     // Before, as sixteen counts: 0 where there is no entry.
-    pub fn before(self, s: &[u8]) -> BeforeField
-        ensures { Reads before_bytes BeforeFits s.now self result.value result.next }
+    pub fn before(self) -> Option<Field<'a, [u32; SITES]>>
+        ensures { Reads before_bytes BeforeFits self.entry.rest.now result }
     {
-        let entries = self.count(s, 0, SITES as u8);
+        let entries = self.count(0, SITES as u8)?;
         let mut next = entries.next;
-        let mut value = [0u32; SITES];
-        let mut last = 0u8;
-        let mut i = 0;
-        while i < entries.value {
-            let entry = next.entry(s, last);
-            next = entry.next;
-            if next.stopped {
-                return BeforeField { value, next };
-            }
+        let mut value = [0; SITES];
+        let mut last = 0;
+        for _ in 0..entries.value {
+            let entry = next.entry(last)?;
             last = entry.value.site;
-            let k = (last as usize) - 1;
-            value[k] = entry.value.count;
-            i = i + 1;
+            value[usize::from(last) - 1] = entry.value.count;
+            next = entry.next;
         }
-        BeforeField { value, next }
+        Some(Field { value, next })
     }
 
     // The place: 1 to 8 identifiers, and pads behind them.
-    pub fn place(self, s: &[u8]) -> PlaceField
-        ensures { Reads encode_place PlaceFits s.now self result.value result.next }
+    pub fn place(self) -> Option<Field<'a, Position>>
+        ensures { Reads encode_place PlaceFits self.entry.rest.now result }
     {
-        let count = self.count(s, 1, Position::LIMIT as u8);
-        let used = count.value as usize;
+        let count = self.count(1, Position::LIMIT as u8)?;
         let mut next = count.next;
-        let mut ids = [Identifier {
-            integer: 0,
-            site: 0,
-        }; Position::LIMIT];
-        let mut i = 0;
-        while i < used {
-            let id = next.identifier(s);
+        let used = usize::from(count.value);
+        let mut ids = [Identifier::default(); Position::LIMIT];
+        for i in 0..used {
+            let id = next.identifier()?;
+            ids[i] = id.value;
             next = id.next;
-            if next.stopped {
-                return PlaceField {
-                    value: Position { used, ids },
-                    next,
-                };
-            }
-            let value = id.value;
-            ids[i] = value;
-            i = i + 1;
         }
-        PlaceField {
+        Some(Field {
             value: Position { used, ids },
             next,
-        }
+        })
     }
 
     // The line of a patch of this kind.
-    pub fn line(self, s: &[u8], kind: u8) -> LineField
-        ensures { Reads encode_line (LineOfKind kind) s.now self result.value result.next }
+    pub fn line(self, kind: Kind) -> Option<Field<'a, Line>>
+        ensures { Reads encode_line (LineOfKind kind) self.entry.rest.now result }
     {
-        if kind == 1 {
-            return self.text(s);
-        }
-        if kind == 2 {
-            return self.struck(s);
-        }
-        LineField {
-            value: Line {
-                edit: Edit::Insert(0),
-                text: [0u8; TEXT],
-            },
-            next: Cursor::halted(),
+        match kind {
+            Kind::Insert => self.text(),
+            Kind::Delete => self.struck(),
         }
     }
 
     // The line of an insert: its text, 0 to 48 bytes.
-    fn text(self, s: &[u8]) -> LineField
-        ensures { Reads encode_line (LineOfKind 1) s.now self result.value result.next }
+    fn text(self) -> Option<Field<'a, Line>>
+        ensures { Reads encode_line (LineOfKind Kind.Insert) self.entry.rest.now result }
     {
-        let count = self.count(s, 0, TEXT as u8);
-        let length = count.value as usize;
-        let next = count.next;
-        let mut text = [0u8; TEXT];
-        if next.has(s, length) {
-            let from = next.at;
-            let end = from + length;
-            copy_front(&mut text, &s[from..end]);
-            return LineField {
-                value: Line {
-                    edit: Edit::Insert(length),
-                    text,
-                },
-                next: Cursor {
-                    at: end,
-                    stopped: false,
-                },
-            };
-        }
-        LineField {
+        let count = self.count(0, TEXT as u8)?;
+        let length = usize::from(count.value);
+        let (bytes, rest) = count.next.rest.split_at_checked(length)?;
+        let mut text = [0; TEXT];
+        copy_front(&mut text, bytes);
+        Some(Field {
             value: Line {
-                edit: Edit::Insert(0),
+                edit: Edit::Insert(length),
                 text,
             },
-            next: Cursor::halted(),
-        }
+            next: Cursor { rest },
+        })
     }
 
     // The line of a delete: always 4 bytes, the number of the line struck.
-    #[tactic(auto, using(crate::proofs::Sections::struck_read))]
-    fn struck(self, s: &[u8]) -> LineField
-        ensures { Reads encode_line (LineOfKind 2) s.now self result.value result.next }
+    #[tactic(auto, using(crate::proofs::Sections::struck_rules))]
+    fn struck(self) -> Option<Field<'a, Line>>
+        ensures { Reads encode_line (LineOfKind Kind.Delete) self.entry.rest.now result }
     {
-        let count = self.count(s, 4, 4);
-        let number = count.next.number(s);
-        let next = number.next;
-        LineField {
+        let count = self.count(4, 4)?;
+        let number = count.next.number()?;
+        Some(Field {
             value: Line {
                 edit: Edit::Delete(number.value),
-                text: [0u8; TEXT],
+                text: [0; TEXT],
             },
-            next,
-        }
+            next: number.next,
+        })
+    }
+}
+
+// The number that four bytes are. It takes them as a slice of its own: that each is below 256 is known of what
+// is passed, and not of a part that a call gave.
+fn number_in(bytes: &[u8]) -> u32
+    requires { length bytes.now ≡ 4 }
+    ensures value { result ≡ num_at 4 bytes.now 0 }
+    ensures bytes { bytes_of 4 result ≡ bytes.now }
+{
+    u32::read(bytes, 0)
+}
+
+// The identifier that three bytes are.
+fn identifier_in(bytes: &[u8]) -> Identifier
+    requires { length bytes.now ≡ 3 }
+    ensures value { result ≡ decode_identifier bytes.now }
+    ensures bytes { encode_identifier result ≡ bytes.now }
+{
+    Identifier {
+        integer: u16::read(bytes, 0),
+        site: bytes[2],
     }
 }

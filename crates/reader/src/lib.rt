@@ -8,16 +8,17 @@
 mod cursor;
 
 ghost use Rattle.std.specs.Prelude.{◌≡◌};
-ghost use Rattle.reader.specs.Read.{refused, read_first, read_one};
+ghost use Rattle.reader.specs.Read.{refused, read_first, read_one, taken};
 
 use cursor::Cursor;
 use format::rules::agrees;
 use format::{Edit, Patch, TEXT};
-use position::{Identifier, Position};
+use position::Position;
 use record::SITES;
 
-// A patch, the 48 bytes of text beside it, and how many bytes it used: 0 where none was read.
-#[derive(Clone, Copy)]
+// A patch, the 48 bytes of text beside it, and how many bytes it used. The default is what 01 has for a refused
+// reading: all zeros, with an insert as the edit.
+#[derive(Clone, Copy, Debug)]
 pub struct Reading {
     pub patch: Patch,
     pub text: [u8; TEXT],
@@ -25,74 +26,50 @@ pub struct Reading {
 }
 
 // Takes the first patch off a run of bytes.
-pub fn read_first(s: &[u8]) -> Reading
-    ensures { result ≡ read_first s.now }
+pub fn read_first(s: &[u8]) -> Option<Reading>
+    ensures { result ≡ taken (read_first s.now) }
 {
-    let head = Cursor::start().head(s);
-    let before = head.next.before(s);
-    let place = before.next.place(s);
-    let line = place.next.line(s, head.value.kind);
-    if line.next.stopped {
-        return refused();
-    }
-    let counts = before.value;
-    let position = place.value;
-    let last = line.value;
-    let edit = last.edit;
-    let text = last.text;
+    let head = Cursor::start(s).head()?;
+    let before = head.next.before()?;
+    let place = before.next.place()?;
+    let line = place.next.line(head.value.kind)?;
     let patch = Patch {
         author: head.value.author,
         number: head.value.number,
-        before: counts,
-        place: position,
-        edit,
+        before: before.value,
+        place: place.value,
+        edit: line.value.edit,
     };
-    if agrees(patch) {
-        Reading {
-            patch,
-            text,
-            used: line.next.at,
-        }
-    } else {
-        refused()
-    }
+    agrees(patch).then_some(Reading {
+        patch,
+        text: line.value.text,
+        used: s.len() - line.next.rest.len(),
+    })
 }
 
 // Reads exactly one patch: a byte left over is malformed.
 #[tactic(auto, unfolding(crate::specs::Read::read_one))]
-pub fn read_one(s: &[u8]) -> Reading
-    ensures { result ≡ read_one s.now }
+pub fn read_one(s: &[u8]) -> Option<Reading>
+    ensures { result ≡ taken (read_one s.now) }
 {
-    let first = read_first(s);
-    if first.used == s.len() {
-        first
-    } else {
-        refused()
-    }
+    read_first(s).filter(|first| first.used == s.len())
 }
 
-// What a refused reading gives: all zeros, with an insert as the edit.
-fn refused() -> Reading
-    ensures { result ≡ refused }
-{
-    let pad = Identifier {
-        integer: 0,
-        site: 0,
-    };
-    let place = Position {
-        used: 0,
-        ids: [pad; Position::LIMIT],
-    };
-    let patch = Patch {
-        author: 0,
-        number: 0,
-        before: [0u32; SITES],
-        place,
-        edit: Edit::Insert(0),
-    };
-    Reading {
-        patch,
-        text: [0u8; TEXT],
-        used: 0,
+// No derive gives it: `Edit` has no variant without a length or a number.
+impl Default for Reading {
+    ghost is_default = { λ reading. reading ≡ refused };
+
+    fn default() -> Reading {
+        Reading {
+            patch: Patch {
+                author: 0,
+                number: 0,
+                before: [0; SITES],
+                place: Position::default(),
+                edit: Edit::Insert(0),
+            },
+            text: [0; TEXT],
+            used: 0,
+        }
     }
 }

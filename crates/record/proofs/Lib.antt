@@ -1,2 +1,4 @@
+pub mod Counts
 pub mod Decided
+pub mod Parts
 pub mod RecordBack

@@ -1,11 +1,12 @@
 -- What the checks of receive tell where all have passed: record and table are sound, and the replica takes
--- the patch that was read.
+-- the patch that was read. And that the author of a reading handed out is a site.
 -- Assumes nothing.
 use Prim.Native.Nat.{ℕ, suc, ◌-◌, ◌≤◌, ◌<◌}
 use native.Mathlib.Omega.{arith}
 use mathlib.Core.Path.{◌≡◌}
 use mathlib.Core.List.{List}
 use borrow.Author.Tests.{leb-false, eqb-false}
+use Rattle.std.specs.Prelude.{Some}
 use Rattle.record.specs.declared.Replica.{Replica}
 use Rattle.record.specs.Records.{count_of}
 use Rattle.script.specs.Sound.{Sound}
@@ -14,8 +15,10 @@ use Rattle.script.proofs.Tables.{lines_length}
 use Rattle.format.specs.declared.Patch.{Patch}
 use Rattle.format.specs.WellFormed.{WellFormed}
 use Rattle.format.proofs.Checked.{Passed}
-use Rattle.reader.specs.Read.{read_one}
+use Rattle.reader.specs.declared.Reading.{Reading}
+use Rattle.reader.specs.Read.{read_one, taken}
 use Rattle.reader.proofs.Readings.{one_is_read}
+use Rattle.reader.proofs.Taken.{some_taken}
 use Rattle.effect.specs.Held.{held_in}
 use Rattle.effect.specs.Effect.{Covers, Takes}
 use Rattle.effect.proofs.Decided.{covers?}
@@ -50,3 +53,11 @@ accepted_takes r table bytes (soundly, (some, (own, (above, (covered, (free, (ro
             rw (lines_length r.rows table) (omega (arith, left, sound.own.rows));
       },
     )
+
+-- what is handed out of a reading is well-formed: its author is a site
+pub author_site : (bytes : List ℕ) (reading : Reading) → taken (read_one bytes) ≡ Some reading
+    → (1 ≤ reading.patch.author) × (reading.patch.author ≤ 16)
+author_site bytes reading read =
+    let both = some_taken (read_one bytes) reading read in
+    let head = (one_is_read bytes (omega (arith, both.1))).0.head in
+    rw both.0 (head.author_least, head.author_most)

@@ -6,4 +6,3 @@ pub mod Received
 pub mod RowRead
 pub mod Started
 pub mod Tests
-pub mod Unchanged

@@ -1,12 +1,17 @@
--- Start: where it answers 0, record and table are sound, the script is empty and nothing is counted.
+-- Start: a table that is cleared has no lines; where it answers 0, record and table are sound, the script is empty
+-- and nothing is counted.
 -- Assumes nothing.
 use Prim.Native.Nat.{ℕ, ◌≤◌}
 use native.Mathlib.Omega.{arith}
 use mathlib.Core.Path.{◌≡◌, refl, sym, ap, ◌∙◌, subst}
 use mathlib.Core.Bool.{Bool, true, false, true≢false, ◌&&◌}
-use mathlib.Core.List.{List}
+use mathlib.Core.List.{List, []}
 use borrow.Author.Tests.{leb-true, not-false}
 use lib.Dec.{leb}
+use native.Mathlib.Nat.{sub-zero}
+use Rattle.rows.specs.Rows.{filled, flat, slots_of}
+use Rattle.rows.proofs.Slots.{zeros, filled_is}
+use Rattle.script.specs.Lines.{table_size, encode_table}
 use lib.ListN.{length-replicate, get_or-replicate}
 use Rattle.record.specs.declared.Replica.{Replica}
 use Rattle.script.specs.Sound.{Sound}
@@ -14,6 +19,14 @@ use Rattle.format.proofs.Checked.{Passed, either_way, answer_done}
 use Rattle.effect.specs.Held.{Outcome, held_in, unchanged, leaving}
 use Rattle.effect.proofs.Keeps.{SoundHeld, held_sound, held_back}
 use Rattle.replica.specs.Start.{empty, start_checks, start_call}
+
+nothing_filled : (n : ℕ) → filled n [] ≡ zeros n
+nothing_filled n = filled_is n [] (omega arith) ∙ rw (sub-zero n)
+
+-- the table of no lines; its size stays a variable, as zeros of a literal number would be computed
+pub no_lines : (n : ℕ) → n ≡ table_size → encode_table [] ≡ zeros n
+unfolding encode_table slots_of flat
+no_lines n size = subst (λ (k : ℕ). filled k [] ≡ zeros n) size (nothing_filled n)
 
 pub empty_sound : (site : ℕ) → 1 ≤ site → site ≤ 16 → SoundHeld (empty site)
 empty_sound site least most =

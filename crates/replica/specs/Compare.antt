@@ -1,12 +1,26 @@
 -- Comparing two sets of sixteen counts (01, 'Answer numbers').
 -- Assumes nothing.
-use Rattle.std.specs.Prelude.{ℕ, suc, Bool, cond, not, ◌&&◌, ltb, replicate}
+use Rattle.std.specs.Prelude.{ℕ, suc, Bool, cond, not, ◌&&◌, ltb, replicate, map, Option, None, Some, Result, Ok, Err}
 use Rattle.std.proofs.Math.Bool.{decide}
 use mathlib.Core.List.{List, [], ◌∷◌, zip_with}
 use Rattle.record.proofs.Decided.{counts_fit?}
-use Rattle.format.specs.Answers.{first_of}
-use Rattle.replica.specs.declared.compare.Lack.{Lack}
-use Rattle.replica.specs.declared.compare.Compared.{Compared}
+use Rattle.format.specs.declared.answers.Refusal.{Refusal}
+use Rattle.format.specs.Answers.{first_of, refusal_number}
+use Rattle.replica.specs.declared.compare.Side.{Side}
+use Rattle.replica.specs.declared.compare.Side.TheVariants.{First, Second}
+use Rattle.replica.specs.declared.compare.Missing.{Missing}
+
+-- What comparing gives of a site, in 01's numbers: "which side has more (0 none, 1 first, 2 second) and the first and
+-- last number that the other side lacks".
+pub record Lack : Type 0 where
+  pub more : ℕ
+  pub first : ℕ
+  pub last : ℕ
+
+-- the answer, and what it gives of each site
+pub record Compared : Type 0 where
+  pub answer : ℕ
+  pub sites : List Lack
 
 -- "0 none", "two zeros where equal"
 abbrev pub no_lack : Lack
@@ -30,3 +44,16 @@ unfoldable pub compare_call : List ℕ → List ℕ → Compared
 compare_call first second =
     first_of (compare_checks first second) (λ n. record { answer = n; sites = replicate 16 no_lack })
     (record { answer = 0; sites = zip_with lack_of first second })
+
+-- what comparing came to, in 01's numbers: refused, "zeros only"
+abbrev pub side_number : Side → ℕ
+side_number First = 1
+side_number Second = 2
+
+abbrev pub lack_given : Option Missing → Lack
+lack_given None = no_lack
+lack_given (Some m) = record { more = side_number m.more; first = m.first; last = m.last }
+
+abbrev pub compared : Result (List (Option Missing)) Refusal → Compared
+compared (Ok sites) = record { answer = 0; sites = map lack_given sites }
+compared (Err why) = record { answer = refusal_number why; sites = replicate 16 no_lack }

@@ -1,83 +1,70 @@
 // Comparing two sets of sixteen counts (01, 'Answer numbers').
 ghost use Rattle.std.specs.Prelude.{◌≡◌};
-ghost use Rattle.replica.specs.Compare.{no_lack, lack_of, compare_call};
+ghost use Rattle.replica.specs.Compare.{lack_of, compare_call, compared, lack_given, side_number};
 
-use format::answers::{DONE, UNSOUND};
+use format::answers::Refusal;
 use record::{SITES, counts_fit};
+use std::cmp::Ordering;
 
-// What one side lacks of a site's patches: which side has more (0 none, 1 first, 2 second), and the
-// first and last number that the other side lacks, or two zeros.
-#[derive(Clone, Copy)]
-pub struct Lack {
-    pub more: u8,
+// Which of the two sides has more of a site's patches.
+#[derive(Clone, Copy, Debug, PartialEq, Eq)]
+pub enum Side {
+    First = 1,
+    Second = 2,
+}
+
+// "0 none, 1 first, 2 second": the number of the side.
+impl From<Side> for u8 {
+    ghost from_gives = { λ side n. n ≡ side_number side };
+
+    fn from(side: Side) -> u8 {
+        side as u8
+    }
+}
+
+// What one side lacks of a site's patches: which side has them, and the first and last number that the other side
+// lacks.
+#[derive(Clone, Copy, Debug, PartialEq, Eq)]
+pub struct Missing {
+    pub more: Side,
     pub first: u32,
     pub last: u32,
 }
 
-// The answer, and for each site what one side lacks.
-#[derive(Clone, Copy)]
-pub struct Compared {
-    pub answer: u32,
-    pub sites: [Lack; SITES],
-}
-
-// Compares two sets of counts, site by site.
-pub fn compare_counts(first: [u32; SITES], second: [u32; SITES]) -> Compared
-    ensures { result ≡ compare_call first second }
+// Compares two sets of counts, site by site: none where neither side lacks anything.
+#[tactic(auto, using(crate::proofs::Tests::tests, crate::proofs::Compared::all_given), unfolding(crate::specs::Compare::compare_call, crate::specs::Compare::compare_checks, format::specs::Answers::first_of))]
+pub fn compare_counts(
+    first: [u32; SITES],
+    second: [u32; SITES],
+) -> Result<[Option<Missing>; SITES], Refusal>
+    ensures { compared result ≡ compare_call first second }
 {
-    let mut sites = [no_lack(); SITES];
-    if !counts_fit(first) {
-        return Compared {
-            answer: UNSOUND,
-            sites,
-        };
+    if !counts_fit(first) || !counts_fit(second) {
+        return Err(Refusal::Unsound);
     }
-    if !counts_fit(second) {
-        return Compared {
-            answer: UNSOUND,
-            sites,
-        };
+    let mut sites = [None; SITES];
+    for i in 0..SITES {
+        sites[i] = missing_of(first[i], second[i]);
     }
-    let mut i = 0;
-    while i < SITES {
-        sites[i] = lack_of(first[i], second[i]);
-        i = i + 1;
-    }
-    Compared {
-        answer: DONE,
-        sites,
-    }
-}
-
-// Equal counts: neither side lacks anything.
-fn no_lack() -> Lack
-    ensures { result ≡ no_lack }
-{
-    Lack {
-        more: 0,
-        first: 0,
-        last: 0,
-    }
+    Ok(sites)
 }
 
 // What one side lacks, of two counts of a site.
 #[tactic(auto, unfolding(crate::specs::Compare::lack_of))]
-fn lack_of(first: u32, second: u32) -> Lack
-    ensures { result ≡ lack_of first second }
+fn missing_of(first: u32, second: u32) -> Option<Missing>
+    ensures { lack_given result ≡ lack_of first second }
 {
-    if second < first {
-        Lack {
-            more: 1,
+    match first.cmp(&second) {
+        Ordering::Equal => None,
+        Ordering::Greater => Some(Missing {
+            more: Side::First,
             first: second + 1,
             last: first,
-        }
-    } else if first < second {
-        Lack {
-            more: 2,
+        }),
+        Ordering::Less => Some(Missing {
+            more: Side::Second,
             first: first + 1,
             last: second,
-        }
-    } else {
-        no_lack()
+        }),
     }
 }

@@ -1,25 +1,22 @@
 // Reading a row's text (01, 'Answer numbers').
 ghost use Rattle.std.specs.Prelude.{◌≡◌};
-ghost use Rattle.replica.specs.Read.{read_call};
+ghost use Rattle.replica.specs.Read.{read_call, text_read};
 
-use format::answers::{DONE, NO_ROW, UNSOUND};
+use format::answers::Refusal;
 use record::Replica;
 use script::table::text;
 use sound::sound;
 
-// The text of a row, as a part of the table; the answer goes beside it. A refused read hands back an
-// empty part.
-pub fn read_row<'a>(r: Replica, table: &'a [u8], row: usize, answer: &mut u32) -> &'a [u8]
-    ensures { record { answer = answer.exit.now; text = result.now } ≡ read_call r table.now row }
+// The text of a row, as a part of the table.
+#[tactic(auto, using(crate::proofs::Tests::tests), unfolding(crate::specs::Read::read_call, crate::specs::Read::read_checks, format::specs::Answers::first_of))]
+pub fn read_row(r: Replica, table: &[u8], row: usize) -> Result<&[u8], Refusal>
+    ensures { text_read result ≡ read_call r table.now row }
 {
     if !sound(r, table) {
-        *answer = UNSOUND;
-        return &table[0..0];
+        return Err(Refusal::Unsound);
     }
     if r.rows as usize <= row {
-        *answer = NO_ROW;
-        return &table[0..0];
+        return Err(Refusal::NoRow);
     }
-    *answer = DONE;
-    text(table, row)
+    Ok(text(table, row))
 }

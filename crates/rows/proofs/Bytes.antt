@@ -1,8 +1,8 @@
--- Bytes stored one by one: what a loop that copies leaves after each turn, what comes back of a part
--- that was lent, what a run of stores writes, and what is written behind one another.
+-- Bytes written into a slice: what a loop that copies leaves after each turn, what comes back of a part
+-- that was lent, what is put in and taken out there, and what is written behind one another.
 -- Assumes nothing.
-use Prim.Native.Nat.{ℕ, zero, suc, ◌+◌, ◌-◌, ◌*◌, ◌/◌, ◌%◌, ◌<◌, ◌≤◌}
-use native.Mathlib.Nat.{add-zero, zero-add, zero-sub, sub-zero, suc-sub-suc, mod-eq_of_lt}
+use Prim.Native.Nat.{ℕ, suc, ◌+◌, ◌-◌, ◌*◌, ◌<◌, ◌≤◌}
+use native.Mathlib.Nat.{add-zero, sub-zero, mod-eq_of_lt}
 use native.Mathlib.Numerals.{add-one}
 use native.Mathlib.Omega.{arith}
 use mathlib.Core.Path.{◌≡◌, sym, ap, ◌∙◌, subst}
@@ -10,11 +10,12 @@ use mathlib.Core.List.{List, [], ◌∷◌, ◌++◌, append_assoc, append-nil}
 use borrow.Rule.Slice.PartMut.{mid_of, put_mid}
 use lib.ListN.{length, take, drop, set, get_or, replicate, length-append, length-take, length-drop}
 use lib.ListN.{take-append-drop, drop_of_length-le, replicate-append-replicate}
-use lib.Seq.{drop-cons, take-suc, set_at, set_split, append_snoc, length-take-le, get_or-append-add, get_or-drop}
-use lib.Seq.{take_all, take_at, take-take, take-append-le, drop_at, drop-length, drop-append-add, drop-drop}
+use lib.Seq.{drop-cons, take-suc, set_at, append_snoc, length-take-le, get_or-append-add, get_or-drop}
+use lib.Seq.{take_all, take_at, take-take, take-append-le, drop_at, drop-append-add, drop-drop}
+use Rattle.std.proofs.lemmas.Grind.{elements}
+use Rattle.std.proofs.lemmas.List.{drop-replicate as fewer}
 use Rattle.rows.specs.Numbers.{bytes_of}
-use Rattle.rows.specs.Rows.{filled, flat, written, within}
-use Rattle.rows.proofs.Digits.{bytes_length}
+use Rattle.rows.specs.Rows.{filled, flat, put_in, take_out, written, within}
 use Rattle.rows.proofs.Slots.{zeros, filled_is, filled_length, flat_append, flat_length}
 
 -- A loop that copies `from` over `to`: after i turns, i elements of `from` and then what is left.
@@ -39,20 +40,42 @@ module _ {A : Type 0} (from to : List A) (i : ℕ) (d : A) where
       (get_or-append-add (take i from) (drop i to) n d ∙ get_or-drop i to n d)
 
 pub drop-replicate : {A : Type 0} (x : A) (n m : ℕ) → drop n (replicate m x) ≡ replicate (m - n) x
-drop-replicate x zero m = rw sub-zero
-drop-replicate x (suc n) zero = rw zero-sub
-drop-replicate x (suc n) (suc m) = rw suc-sub-suc (drop-replicate x n m)
+drop-replicate x n m = fewer n m x
 
 -- a part lent from a place to the end, and what comes back of it
 module _ (at : ℕ) (s : List ℕ) where
   pub rest_lent : mid_of at (length s - at) s ≡ drop at s
-  rest_lent = take_all (length s - at) (drop at s) (omega (arith, length-drop at s))
+  rest_lent = grind (arith, elements)
 
   pub rest_back : (part : List ℕ) → put_mid at (length s - at) s part ≡ take at s ++ part
   rest_back part =
       let short : length (drop at s) ≤ length s - at = omega (arith, length-drop at s) in
       let none : drop (length s - at) (drop at s) ≡ [] = drop_of_length-le (drop at s) short in
       rw (none, append-nil)
+
+-- what is kept stands at the front, and behind it all is cleared
+pub cleared_behind : (kept : ℕ) (l now part : List ℕ) → take kept now ≡ l → length l ≡ kept → kept ≤ length now
+    → part ≡ zeros (length (mid_of kept (length now - kept) now))
+    → put_mid kept (length now - kept) now part ≡ filled (length now) l
+cleared_behind kept l now part front size room e =
+    rw (rest_back kept now part, e, rest_lent kept now) (grind (arith, elements, filled_is))
+
+-- what closes a move down
+pub ruleset moved_down = (cleared_behind, filled_is, elements)
+
+-- bytes put in at the front of the rest are put in at its place
+pub put_within : (at : ℕ) (bytes s part : List ℕ)
+    → let lent = mid_of at (length s - at) s in part ≡ take (length lent) (bytes ++ lent)
+    → put_mid at (length s - at) s part ≡ put_in at bytes s
+unfolding put_in
+put_within at bytes s part e = rw (rest_back at s part, e, rest_lent at s) (grind (arith, elements))
+
+-- and the first n bytes taken out of the rest are taken out at its place
+pub take_within : (at n : ℕ) (s part : List ℕ) → at ≤ length s
+    → let lent = mid_of at (length s - at) s in part ≡ filled (length lent) (drop n lent)
+    → put_mid at (length s - at) s part ≡ take_out at n s
+unfolding take_out filled
+take_within at n s part h e = rw (rest_back at s part, e, rest_lent at s) (grind (arith, elements))
 
 -- a move of the front, lent by itself
 pub front_moved : (n : ℕ) (move : List ℕ → List ℕ) (s part : List ℕ) → part ≡ move (mid_of 0 (n - 0) s)
@@ -68,7 +91,7 @@ nothing_written at s = rw (add-zero at) (sym (take-append-drop at s))
 
 pub all_written : (bytes s : List ℕ) → length s ≡ length bytes → written 0 bytes s ≡ bytes
 unfolding written
-all_written bytes s e = rw (zero-add, ← e, drop-length) (append-nil bytes)
+all_written bytes s e = grind (arith, elements)
 
 pub written_length : (at : ℕ) (bytes s : List ℕ) → at + length bytes ≤ length s
     → length (written at bytes s) ≡ length s
@@ -118,29 +141,19 @@ copied_written at k bytes s part size room e =
 
 set_written : (at b : ℕ) (s : List ℕ) → at < length s → set s at b ≡ written at (b ∷ []) s
 unfolding written
-set_written at b s h = rw (set_split s at b h, add-one)
+set_written at b s h = grind (arith, elements)
 
 pub byte_written : (at b : ℕ) (s : List ℕ) → b < 256 → at < length s → set s at b ≡ written at (bytes_of 1 b) s
 unfolding bytes_of
 byte_written at b s small h = rw (mod-eq_of_lt small) (set_written at b s h)
 
--- the n bytes of a number, stored at a place one by one
-abbrev pub stored : ℕ → ℕ → ℕ → List ℕ → List ℕ
-stored zero at v s = s
-stored (suc n) at v s = set (stored n at (v / 256) s) (at + n) (v % 256)
+-- bytes written over a part of their length
+pub part_written : (at n : ℕ) (bytes s : List ℕ) → n ≡ length bytes → put_mid at n s bytes ≡ written at bytes s
+unfolding written
+part_written at n bytes s e = rw (e, drop-drop)
 
-pub stored_written : (n at v : ℕ) (s : List ℕ) → at + n ≤ length s
-    → stored n at v s ≡ written at (bytes_of n v) s
-unfolding bytes_of
-stored_written zero at v s h = nothing_written at s
-stored_written (suc n) at v s h =
-    let bytes = bytes_of n (v / 256) in
-    let before = written at bytes s in
-    let here : at + n ≡ at + length bytes = omega (arith, bytes_length n (v / 256)) in
-    let room : at + n < length before = omega (arith, written_length at bytes s (omega arith)) in
-    ap (λ (l : List ℕ). set l (at + n) (v % 256)) (stored_written n at (v / 256) s (omega arith))
-    ∙ set_written (at + n) (v % 256) before room
-    ∙ written_both at (at + n) bytes (v % 256 ∷ []) s here (omega arith)
+-- what closes a number written
+pub ruleset puts = (byte_written, part_written)
 
 -- Elements of one width written behind one another: after i of them, the next one.
 module _ {A : Type 0} (encode : A → List ℕ) (width : ℕ) (each : (x : A) → length (encode x) ≡ width)

@@ -8,7 +8,7 @@ use mathlib.Core.Path.{◌≡◌, refl, sym, ap, ◌∙◌}
 use mathlib.Core.List.{List, ◌∷◌, ◌++◌}
 use lib.Arith.{digits_lt, digits_div, digits_mod}
 use lib.ListN.{length, take, drop, get_or, length-append, length-drop, get_or-append}
-use lib.Seq.{drop_at, drop-drop, take-suc, append_snoc, get_or_at, get_or-drop, get_or-append-add}
+use lib.Seq.{drop_at, drop-drop, take-suc, append_snoc, get_or_at, get_or-drop}
 use Rattle.rows.specs.Numbers.{num_at, bytes_of}
 
 -- a list of bytes: each element, and the 0 that is read behind the end, is below 256
@@ -38,12 +38,6 @@ pub num_drop : (n k at : ℕ) (s : List ℕ) → num_at n (drop k s) at ≡ num_
 unfolding num_at
 num_drop zero k at s = refl
 num_drop (suc n) k at s = rw (num_drop n k at s, get_or-drop, add_assoc)
-
--- a number read behind the list in front
-pub num_behind : (n at : ℕ) (a s : List ℕ) → num_at n (a ++ s) (length a + at) ≡ num_at n s at
-unfolding num_at
-num_behind zero at a s = refl
-num_behind (suc n) at a s = rw (num_behind n at a s, add_assoc, get_or-append-add)
 
 -- what is written is read back
 pub num_back : (n v : ℕ) (rest : List ℕ) → v < 256 ^ n → num_at n (bytes_of n v ++ rest) 0 ≡ v

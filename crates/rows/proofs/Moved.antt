@@ -4,13 +4,14 @@
 use Prim.Native.Nat.{ℕ, zero, suc, ◌+◌, ◌-◌, ◌*◌, ◌≤◌, ◌<◌}
 use native.Mathlib.Nat.{le_of_suc-le-suc}
 use native.Mathlib.Omega.{arith}
-use mathlib.Core.Path.{◌≡◌, refl, sym, ap, ◌∙◌}
+use mathlib.Core.Path.{◌≡◌, refl, sym, ◌∙◌}
 use mathlib.Core.List.{List, [], ◌∷◌, ◌++◌, append_assoc}
 use lib.ListN.{length, take, drop, get_or, length-append, length-take, length-drop, length-replicate}
 use lib.ListN.{take-append-drop, replicate-append-replicate}
-use lib.Seq.{take_at, drop_at, drop-drop, split_at, length-take-le}
-use Rattle.rows.specs.Rows.{flat, slots_of, insert_at, remove_at, put_in, take_out, within}
-use Rattle.rows.proofs.Slots.{zeros, filled_is, flat_append, flat_length, slots_is}
+use lib.Seq.{take_at, drop_at, split_at, length-take-le}
+use Rattle.std.proofs.lemmas.Grind.{elements}
+use Rattle.rows.specs.Rows.{filled, flat, slots_of, insert_at, remove_at, put_in, take_out, within}
+use Rattle.rows.proofs.Slots.{zeros, flat_append, flat_length, slots_is}
 
 -- The list: its length, and what stands before, at and after the place.
 
@@ -22,11 +23,7 @@ module _ {ℓ} {A : Type ℓ} where
   pub insert_before : (k : ℕ) (x : A) (xs : List A) (i : ℕ) (d : A) → i < k → k ≤ length xs
       → get_or (insert_at k x xs) i d ≡ get_or xs i d
   unfolding insert_at
-  insert_before (suc k) x (y ∷ ys) zero d b h = refl
-  insert_before (suc k) x (y ∷ ys) (suc i) d b h =
-      insert_before k x ys i d (le_of_suc-le-suc b) (le_of_suc-le-suc h)
-  insert_before zero x xs i d b h = elim b [ ]
-  insert_before (suc k) x [] i d b h = elim h [ ]
+  insert_before k x xs i d b h = grind (arith, elements)
 
   pub insert_here : (k : ℕ) (x : A) (xs : List A) (d : A) → k ≤ length xs → get_or (insert_at k x xs) k d ≡ x
   unfolding insert_at
@@ -74,22 +71,12 @@ within_at n move front behind e = rw (take_at front behind n e, drop_at front be
 put_at : (at : ℕ) (bytes a b free : List ℕ) → length a ≡ at → length free ≡ length bytes
     → put_in at bytes ((a ++ b) ++ free) ≡ a ++ (bytes ++ b)
 unfolding put_in
-put_at at bytes a b free e f =
-    let later = b ++ free in
-    let regrouped : a ++ (bytes ++ later) ≡ (a ++ (bytes ++ b)) ++ free = simp append_assoc in
-    let as_long : length (a ++ (bytes ++ b)) ≡ length (a ++ later) = simp length-append (omega arith) in
-    rw (append_assoc a b free, take_at a later at e, drop_at a later at e, regrouped)
-    (take_at (a ++ (bytes ++ b)) free (length (a ++ later)) as_long)
+put_at at bytes a b free e f = grind (arith, elements)
 
 out_at : (at n : ℕ) (a gone b : List ℕ) → length a ≡ at → length gone ≡ n
     → take_out at n (a ++ (gone ++ b)) ≡ (a ++ b) ++ zeros n
-unfolding take_out
-out_at at n a gone b e f =
-    let all = a ++ (gone ++ b) in
-    let left : length all ≡ length (a ++ b) + n = simp length-append (omega arith) in
-    let freed : length all - length (a ++ b) ≡ n = omega arith in
-    rw (← drop-drop n at all, take_at a (gone ++ b) at e, drop_at a (gone ++ b) at e, drop_at gone b n f)
-    (filled_is (length all) (a ++ b) (omega arith) ∙ ap (λ (m : ℕ). (a ++ b) ++ zeros m) freed)
+unfolding take_out filled
+out_at at n a gone b e f = grind (arith, elements)
 
 module _ {ℓ} {A : Type ℓ} (encode : A → List ℕ) (width : ℕ) (each : (x : A) → length (encode x) ≡ width)
     (size : ℕ) where

@@ -10,7 +10,8 @@ use mathlib.Core.Logic.{by_cases}
 use mathlib.Core.List.{List, [], ◌∷◌, ◌++◌, append_assoc}
 use lib.ListN.{length, take, drop, get_or, replicate, length-append, length-take, length-replicate}
 use lib.ListN.{take-append-drop, get_or-eq_default}
-use lib.Seq.{length-take-le, take_all, take_at, drop_at, get_or-take, take-add, drop-drop, split_at, ext_get_or}
+use lib.Seq.{length-take-le, take_all, take_at, drop_at, get_or-take, take-add, drop-drop, split_at}
+use Rattle.std.proofs.lemmas.Grind.{elements}
 use Rattle.rows.specs.Rows.{filled, flat, slots_of, rows_of}
 
 -- every element, by its place; d is what is read behind the end
@@ -43,15 +44,12 @@ filled_at n l i h = get_or-take n (l ++ zeros n) i 0 h ∙ append_zeros l n i
 
 -- what fits stands in front of the zeros
 pub filled_is : (n : ℕ) (l : List ℕ) → length l ≤ n → filled n l ≡ l ++ zeros (n - length l)
-filled_is n l h =
-    let lengths : length (filled n l) ≡ length (l ++ zeros (n - length l)) =
-    simp (filled_length, length-append, length-replicate) (omega arith) in
-    ext_get_or 0 (filled n l) (l ++ zeros (n - length l)) lengths (λ i b.
-    filled_at n l i (rw filled_length at b) ∙ sym (append_zeros l (n - length l) i))
+unfolding filled
+filled_is n l h = grind (arith, elements)
 
 pub filled_back : (n : ℕ) (l rest : List ℕ) → length l ≤ n → take (length l) (filled n l ++ rest) ≡ l
-filled_back n l rest h =
-    rw (filled_is n l h, append_assoc) (take_at l (zeros (n - length l) ++ rest) (length l) refl)
+unfolding filled
+filled_back n l rest h = grind (arith, elements)
 
 -- behind what is filled up there is zero
 pub filled_zero : (n : ℕ) (l : List ℕ) (i : ℕ) → length l ≤ i → get_or (filled n l) i 0 ≡ 0
@@ -63,15 +61,8 @@ filled_zero n l i h =
 -- bytes that are zero from place m on are their first m, filled up
 pub filled_front : (n m : ℕ) (s : List ℕ) → n ≤ length s → ((j : ℕ) → m ≤ j → j < n → get_or s j 0 ≡ 0)
     → filled n (take m s) ≡ take n s
-filled_front n m s h unused =
-    let as_long : length (filled n (take m s)) ≡ length (take n s) =
-    rw (filled_length, length-take-le n s h) in
-    ext_get_or 0 (filled n (take m s)) (take n s) as_long (λ i b.
-    let inside : i < n = omega (arith, filled_length n (take m s)) in
-    by_cases (dec_lt i m)
-    (λ c. filled_at n (take m s) i inside ∙ get_or-take m s i 0 c)
-    (λ c. filled_zero n (take m s) i (simp length-take (omega arith)) ∙ sym (unused i (omega arith) inside))
-    ∙ sym (get_or-take n s i 0 inside))
+unfolding filled
+filled_front n m s h unused = grind (arith, elements)
 
 -- Elements one behind the other, and a slice of rows read.
 

@@ -1,13 +1,13 @@
 // Bytes put into a slice and taken out of it, with what stands behind them moved; bytes cleared, and
-// whether they are clear. The loops run over neighbouring bytes without an exit inside: the compiler
-// makes vectors of them.
+// whether they are clear. A move is by the distance that the caller gives, and not by the lesser of that and
+// what there is: where it is a constant, as a row's width is, the compiler makes a memmove of `copy_within`.
 
-ghost use Rattle.std.specs.Prelude.{◌≡◌, true, ◌++◌, ◌↔◌, ◌-◌, min, length, take, drop, replicate};
+ghost use Rattle.std.specs.Prelude.{◌≡◌, true, ◌++◌, ◌↔◌, ◌-◌, length, take, drop, replicate};
 ghost use Rattle.rows.specs.Rows.{filled, put_in, take_out, AllZero};
 
 // Puts bytes in at a place: what stood from there on moves up, and as many bytes fall off the end.
 // A place behind the end changes nothing.
-#[tactic(auto, unfolding(crate::specs::Rows::put_in))]
+#[tactic(auto, using(crate::proofs::Bytes::put_within), unfolding(crate::specs::Rows::put_in))]
 pub fn put_in(s: &mut [u8], at: usize, bytes: &[u8])
     ensures { s.new ≡ put_in at bytes.now s.old }
 {
@@ -18,7 +18,7 @@ pub fn put_in(s: &mut [u8], at: usize, bytes: &[u8])
 
 // Takes n bytes out at a place: what stood behind them moves down, and what is freed is zero.
 // A place behind the end changes nothing.
-#[tactic(auto, unfolding(crate::specs::Rows::take_out, crate::specs::Rows::filled))]
+#[tactic(auto, using(crate::proofs::Bytes::take_within), unfolding(crate::specs::Rows::take_out, crate::specs::Rows::filled))]
 pub fn take_out(s: &mut [u8], at: usize, n: usize)
     ensures { s.new ≡ take_out at n s.old }
 {
@@ -35,68 +35,46 @@ fn put_front(s: &mut [u8], bytes: &[u8])
     copy_front(s, bytes);
 }
 
-// Moves every byte up by n places, the last first. The first n stay as they were.
+// Moves every byte up by n places. The first n stay as they were, and so do all where there are fewer.
 fn move_up(s: &mut [u8], n: usize)
     ensures { s.new ≡ take n s.old ++ take (length s.old - n) s.old }
 {
-    let mut i = s.len();
-    while n < i {
-        i = i - 1;
-        s[i] = s[i - n];
+    if let Some(kept) = s.len().checked_sub(n) {
+        s.copy_within(..kept, n);
     }
 }
 
-// Moves every byte down by n places, the first first. What is freed at the end is zero.
+// Moves every byte down by n places. What is freed at the end is zero.
+#[tactic(auto, using(crate::proofs::Bytes::moved_down))]
 fn move_down(s: &mut [u8], n: usize)
     ensures { s.new ≡ filled (length s.old) (drop n s.old) }
 {
-    let kept = s.len() - smaller(n, s.len());
-    let mut i = 0;
-    while i < kept {
-        s[i] = s[i + n];
-        i = i + 1;
+    if let Some(kept) = s.len().checked_sub(n) {
+        s.copy_within(n.., 0);
+        clear(&mut s[kept..]);
+    } else {
+        clear(s);
     }
-    clear(&mut s[kept..]);
 }
 
 // Sets every byte to zero.
 pub fn clear(s: &mut [u8])
     ensures { s.new ≡ replicate (length s.old) 0 }
 {
-    let mut i = 0;
-    while i < s.len() {
-        s[i] = 0;
-        i = i + 1;
-    }
+    s.fill(0);
 }
 
-// Whether all bytes are zero.
+// Whether all bytes are zero. They are or-ed together without an exit, and the compiler makes vectors of them.
 pub fn all_zero(s: &[u8]) -> bool
     ensures { (result ≡ true) ↔ AllZero s.now }
 {
-    let mut faults = 0u8;
-    let mut j = 0;
-    while j < s.len() {
-        faults = faults | s[j];
-        j = j + 1;
-    }
-    faults == 0
+    s.iter().fold(0, |faults, b| faults | *b) == 0
 }
 
 // Copies bytes over the front, as many as there is room for. What stands behind them stays.
 pub fn copy_front(s: &mut [u8], bytes: &[u8])
     ensures { s.new ≡ take (length s.old) bytes.now ++ drop (length bytes.now) s.old }
 {
-    let n = smaller(s.len(), bytes.len());
-    let mut i = 0;
-    while i < n {
-        s[i] = bytes[i];
-        i = i + 1;
-    }
-}
-
-fn smaller(a: usize, b: usize) -> usize
-    ensures { result ≡ min a b }
-{
-    if a < b { a } else { b }
+    let n = s.len().min(bytes.len());
+    s[..n].copy_from_slice(&bytes[..n]);
 }

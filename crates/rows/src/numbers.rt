@@ -1,65 +1,93 @@
-// Numbers in a layout, the high byte first (01, 'The record and the table'). One definition over the
-// width, `num_at` and `bytes_of`; a function for each width that the layouts have.
+// Numbers in a layout, the high byte first (01, 'The record and the table'): one trait, for each type that is as
+// wide as a number of the layouts. What they mean is one definition over the width, `num_at` and `bytes_of`. The
+// bytes of a number go through the library's methods, and the machine reads and writes them as one word.
+#![tactic(auto, using(crate::proofs::Bytes::puts), unfolding(crate::specs::Numbers::num_at, crate::specs::Numbers::bytes_of))]
 
-ghost use Rattle.std.specs.Prelude.{◌≡◌, ◌+◌, ◌≤◌, length};
+ghost use Rattle.std.specs.Prelude.{◌≡◌, ℕ, ◌+◌, ◌≤◌, length};
 ghost use Rattle.rows.specs.Numbers.{num_at, bytes_of};
 ghost use Rattle.rows.specs.Rows.{written};
 
-// The number of 2 bytes at a place.
-#[tactic(auto, unfolding(crate::specs::Numbers::num_at))]
-pub fn number_2(s: &[u8], at: usize) -> u16
-    requires { at + 2 ≤ length s.now }
-    ensures { result ≡ num_at 2 s.now at }
-{
-    (s[at] as u16) * 256 + (s[at + 1] as u16)
+// A number that stands in a layout, as many bytes as its type has. A slice and a place in it are two parameters, as in
+// the library's own methods.
+pub trait Number: Copy {
+    // how many bytes
+    ghost width: { ℕ };
+
+    // the number
+    ghost value: { Self → ℕ };
+
+    // The number at a place.
+    fn read(s: &[u8], at: usize) -> Self
+        requires { at + width ≤ length s.now }
+        ensures { value result ≡ num_at width s.now at };
+
+    // Writes the number over the bytes at a place.
+    fn put(self, s: &mut [u8], at: usize)
+        requires { at + width ≤ length s.old }
+        ensures { s.new ≡ written at (bytes_of width (value self)) s.old };
 }
 
-// The number of 4 bytes at a place. One expression: the machine then reads it as one word, and not if
-// it is put together from two numbers of 2 bytes.
-#[tactic(auto, unfolding(crate::specs::Numbers::num_at))]
-pub fn number_4(s: &[u8], at: usize) -> u32
-    requires { at + 4 ≤ length s.now }
-    ensures { result ≡ num_at 4 s.now at }
-{
-    (((s[at] as u32) * 256 + (s[at + 1] as u32)) * 256 + (s[at + 2] as u32)) * 256
-        + (s[at + 3] as u32)
+impl Number for u8 {
+    ghost width = { 1 };
+
+    ghost value = { λ v. v };
+
+    fn read(s: &[u8], at: usize) -> u8 {
+        s[at]
+    }
+
+    fn put(self, s: &mut [u8], at: usize) {
+        s[at] = self;
+    }
 }
 
-// The number of 8 bytes at a place, by its halves: one word too.
-pub fn number_8(s: &[u8], at: usize) -> u64
-    requires { at + 8 ≤ length s.now }
-    ensures { result ≡ num_at 8 s.now at }
-{
-    let high = number_4(s, at);
-    let low = number_4(s, at + 4);
-    (high as u64) * 4_294_967_296 + (low as u64)
+impl Number for u16 {
+    ghost width = { 2 };
+
+    ghost value = { λ v. v };
+
+    fn read(s: &[u8], at: usize) -> u16 {
+        u16::from_be_bytes([s[at], s[at + 1]])
+    }
+
+    fn put(self, s: &mut [u8], at: usize) {
+        s[at..at + 2].copy_from_slice(&self.to_be_bytes());
+    }
 }
 
-// Writes a number over the byte at a place.
-#[tactic(auto, using(crate::proofs::Bytes::byte_written))]
-pub fn put_1(s: &mut [u8], at: usize, v: u8)
-    requires { at + 1 ≤ length s.old }
-    ensures { s.new ≡ written at (bytes_of 1 v) s.old }
-{
-    s[at] = v;
+impl Number for u32 {
+    ghost width = { 4 };
+
+    ghost value = { λ v. v };
+
+    fn read(s: &[u8], at: usize) -> u32 {
+        u32::from_be_bytes([s[at], s[at + 1], s[at + 2], s[at + 3]])
+    }
+
+    fn put(self, s: &mut [u8], at: usize) {
+        s[at..at + 4].copy_from_slice(&self.to_be_bytes());
+    }
 }
 
-// Writes a number over the 2 bytes at a place.
-pub fn put_2(s: &mut [u8], at: usize, v: u16)
-    requires { at + 2 ≤ length s.old }
-    ensures { s.new ≡ written at (bytes_of 2 v) s.old }
-{
-    s[at] = (v / 256 % 256) as u8;
-    s[at + 1] = (v % 256) as u8;
-}
+impl Number for u64 {
+    ghost width = { 8 };
 
-// Writes a number over the 4 bytes at a place.
-pub fn put_4(s: &mut [u8], at: usize, v: u32)
-    requires { at + 4 ≤ length s.old }
-    ensures { s.new ≡ written at (bytes_of 4 v) s.old }
-{
-    s[at] = (v / 256 / 256 / 256 % 256) as u8;
-    s[at + 1] = (v / 256 / 256 % 256) as u8;
-    s[at + 2] = (v / 256 % 256) as u8;
-    s[at + 3] = (v % 256) as u8;
+    ghost value = { λ v. v };
+
+    fn read(s: &[u8], at: usize) -> u64 {
+        u64::from_be_bytes([
+            s[at],
+            s[at + 1],
+            s[at + 2],
+            s[at + 3],
+            s[at + 4],
+            s[at + 5],
+            s[at + 6],
+            s[at + 7],
+        ])
+    }
+
+    fn put(self, s: &mut [u8], at: usize) {
+        s[at..at + 8].copy_from_slice(&self.to_be_bytes());
+    }
 }

@@ -3,6 +3,9 @@
 use Prim.Native.Nat.{ℕ, suc, ◌+◌, ◌*◌, ◌<◌}
 use native.Mathlib.Decide.{map_dec, ℕ_discrete, dec_le}
 use native.Mathlib.Omega.{arith}
+use mathlib.Core.HLevel.{⊥_prop}
+use mathlib.Core.Logic.{∥∥₁_elim}
+use mathlib.Core.Logic.Dec.{not-not}
 use mathlib.Core.List.{List}
 use lib.ListN.{length, get_or}
 use Rattle.position.specs.Positions.{author_of}
@@ -54,3 +57,7 @@ sound? r table =
     by_field (each_within? (λ j. ℕ_discrete (get_or table j 0) 0) (r.rows * row_size) table_size) (λ sound. sound.unused_rows) λ unused_rows.
     by_field (rising? table r.rows) (λ sound. sound.rising) λ rising.
     yes (record { own = own; size = size; row = row; unused_rows = unused_rows; rising = rising })
+
+-- and so needs no more than that there is a proof of it
+pub sound_of : {r : Replica} {t : List ℕ} → ∥ Sound r t ∥₁ → Sound r t
+sound_of {r} {t} h = (not-not (sound? r t)).0 (λ fails. ∥∥₁_elim h ⊥_prop fails)

@@ -3,14 +3,12 @@
 -- Assumes nothing.
 use Prim.Native.Nat.{ℕ, ◌+◌, ◌-◌, ◌*◌, ◌^◌, ◌≤◌, ◌<◌}
 use native.Mathlib.Omega.{arith}
-use mathlib.Core.Path.{◌≡◌, sym, ap, ◌∙◌}
+use mathlib.Core.Path.{◌≡◌, sym, ◌∙◌}
 use mathlib.Core.List.{List, ◌++◌, append_assoc}
 use lib.ListN.{length, take, drop, get_or, length-append, length-drop}
 use lib.Seq.{length-take-le, drop_at, take-add, drop-drop, get_or-drop}
 use Rattle.position.specs.declared.Identifier.{Identifier}
-use Rattle.position.specs.declared.Position.{Position}
-use Rattle.position.specs.Positions.{pad, ids_of}
-use Rattle.position.proofs.Ids.{next_id}
+use Rattle.position.specs.Positions.{pad}
 use Rattle.rows.specs.Numbers.{bytes_of}
 use Rattle.rows.specs.Rows.{filled, flat, slots_of, written}
 use Rattle.rows.proofs.Digits.{Bytes, bytes_drop, part_at, read_on, bytes_length}
@@ -33,25 +31,24 @@ pub identifier_length : (i : Identifier) → length (encode_identifier i) ≡ 3
 unfolding encode_identifier
 identifier_length i = simp (length-append, bytes_length)
 
--- the next identifier of a position, its integer and then its site, written behind those before it
-pub identifier_written : (p : Position) (i at next end : ℕ) (s : List ℕ) → i < length (ids_of p)
+-- the next identifier, its integer and then its site, written behind those before it
+pub identifier_written : (ids : List Identifier) (i at next end : ℕ) (s : List ℕ) → i < length ids
     → next ≡ at + i * 3 → end ≡ next + 2 → end ≤ length s
-    → let id = get_or p.ids i pad in
-    written end (bytes_of 1 id.site) (written next (bytes_of 2 id.integer) (written at (flat encode_identifier (take i (ids_of p))) s))
-    ≡ written at (flat encode_identifier (take (i + 1) (ids_of p))) s
+    → let id = get_or ids i pad in
+    written end (bytes_of 1 id.site) (written next (bytes_of 2 id.integer) (written at (flat encode_identifier (take i ids)) s))
+    ≡ written at (flat encode_identifier (take (i + 1) ids)) s
 unfolding encode_identifier
-identifier_written p i at next end s h n e k =
-    let id = get_or p.ids i pad in
-    let passed = flat encode_identifier (take i (ids_of p)) in
+identifier_written ids i at next end s h n e k =
+    let id = get_or ids i pad in
+    let passed = flat encode_identifier (take i ids) in
     let so_far = written at passed s in
     let bytes : length passed ≡ i * 3 =
-    rw (flat_length encode_identifier 3 identifier_length, length-take-le i (ids_of p) (omega arith)) in
+    rw (flat_length encode_identifier 3 identifier_length, length-take-le i ids (omega arith)) in
     let size : length so_far ≡ length s = written_length at passed s (omega arith) in
     let integer = bytes_of 2 id.integer in
     let behind : end ≡ next + length integer = omega (arith, bytes_length 2 id.integer) in
     written_both next end integer (bytes_of 1 id.site) so_far behind (omega arith)
-    ∙ ap (λ (j : Identifier). written next (encode_identifier j) so_far) (sym (next_id p i h))
-    ∙ element_written encode_identifier 3 identifier_length (ids_of p) i pad h at next s n (omega arith)
+    ∙ element_written encode_identifier 3 identifier_length ids i pad h at next s n (omega arith)
 
 pub identifier_back : (i : Identifier) → FittingIdentifier i → (rest : List ℕ)
     → decode_identifier (encode_identifier i ++ rest) ≡ i

@@ -10,8 +10,8 @@ use mathlib.Core.Logic.{⊎_elim}
 use mathlib.Core.List.{List, [], ◌∷◌}
 use lib.ListN.{length, get_or}
 use Rattle.position.specs.declared.Identifier.{Identifier}
-use Rattle.position.specs.declared.order.Order.{Order}
-use Rattle.position.specs.declared.order.Order.TheVariants.{Below, Same, Above}
+use Rattle.std.specs.declared.cmp.Ordering.{Ordering}
+use Rattle.std.specs.declared.cmp.Ordering.TheVariants.{Less, Equal, Greater}
 use Rattle.position.specs.Order.{order_of, ◌≺◌}
 use Rattle.position.proofs.Ordered.{same_is, above_under, transitive}
 use Rattle.script.specs.declared.table.Found.{Found}
@@ -29,7 +29,7 @@ module _ (p : List Identifier) where
   Under k lines = (i : ℕ) → i < k → place_at lines i ≺ p
 
   found_row : (k : ℕ) (lines : List Line) → k < length lines → Under k lines
-      → order_of (place_at lines k) p ≡ Same → find_in p lines ≡ Row k
+      → order_of (place_at lines k) p ≡ Equal → find_in p lines ≡ Row k
   unfolding find_in
   found_row zero (l ∷ ls) h under same = rw same
   found_row (suc k) (l ∷ ls) h under same =
@@ -39,7 +39,7 @@ module _ (p : List Identifier) where
   found_row (suc k) [] h under same = elim h [ ]
 
   pub found_gap : (k : ℕ) (lines : List Line) → k ≤ length lines → Under k lines
-      → (k < length lines → order_of (place_at lines k) p ≡ Above) → find_in p lines ≡ Gap k
+      → (k < length lines → order_of (place_at lines k) p ≡ Greater) → find_in p lines ≡ Gap k
   unfolding find_in
   found_gap zero [] h under above = refl
   found_gap zero (l ∷ ls) h under above = rw (above (zero-lt-suc (length ls)))
@@ -63,12 +63,12 @@ module _ (p : List Identifier) where
       further k below under zero h = below
       further k below under (suc i) h = under i (le_of_suc-le-suc h)
 
-      by : (o : Order) → order_of l.position p ≡ o → (f : Found) → Told ls f → Told (l ∷ ls) (against o f)
-      by Below e f (in_row k h under is) = in_row (suc k) (suc-le-suc h) (further k e under) is
-      by Below e f (in_gap k h under over) =
+      by : (o : Ordering) → order_of l.position p ≡ o → (f : Found) → Told ls f → Told (l ∷ ls) (against o f)
+      by Less e f (in_row k h under is) = in_row (suc k) (suc-le-suc h) (further k e under) is
+      by Less e f (in_gap k h under over) =
           in_gap (suc k) (suc-le-suc h) (further k e under) (λ b. over (le_of_suc-le-suc b))
-      by Same e f t = in_row zero (zero-lt-suc (length ls)) (λ i h. absurd (omega arith)) (same_is l.position p e)
-      by Above e f t =
+      by Equal e f t = in_row zero (zero-lt-suc (length ls)) (λ i h. absurd (omega arith)) (same_is l.position p e)
+      by Greater e f t =
           in_gap zero (omega arith) (λ i h. absurd (omega arith)) (λ _. above_under l.position p e)
 
 module _ (lines : List Line)
@@ -84,7 +84,7 @@ module _ (lines : List Line)
       (eq-or-lt_of_le (le_of_suc-le-suc h))
   rising_far i zero h k = elim h [ ]
 
-  pub found_same : (p : List Identifier) (k : ℕ) → k < length lines → order_of (place_at lines k) p ≡ Same
+  pub found_same : (p : List Identifier) (k : ℕ) → k < length lines → order_of (place_at lines k) p ≡ Equal
       → find_in p lines ≡ Row k
   found_same p k h same =
       let is : place_at lines k ≡ p = same_is (place_at lines k) p same in

@@ -1,15 +1,16 @@
 -- A row in use of a sound table, lent from its first byte to the table's end: it can be read, what is read
 -- is its line, and the line is found there.
 -- Assumes nothing.
-use Prim.Native.Nat.{ℕ, ◌-◌, ◌*◌, ◌≤◌, ◌<◌}
+use Prim.Native.Nat.{ℕ, ◌+◌, ◌-◌, ◌*◌, ◌≤◌, ◌<◌}
 use native.Mathlib.Omega.{arith}
 use mathlib.Core.Path.{◌≡◌, sym, ap, ◌∙◌}
 use mathlib.Core.List.{List}
-use lib.ListN.{length, take, drop, length-drop}
+use lib.ListN.{length, take, drop, get_or, length-drop}
+use lib.Seq.{drop-drop, get_or-drop}
 use Rattle.position.proofs.Ordered.{is_same}
 use Rattle.rows.proofs.Bytes.{rest_lent}
 use Rattle.record.specs.declared.Replica.{Replica}
-use Rattle.script.specs.Lines.{row_size, Line, used_of, identifiers_of, decode_row, row_at, decode_table}
+use Rattle.script.specs.Lines.{row_size, Line, used_of, identifiers_of, text_of, text_start, decode_row, row_at, decode_table}
 use Rattle.script.specs.declared.table.Found.TheVariants.{Row}
 use Rattle.script.specs.Sound.{Sound}
 use Rattle.script.specs.Find.{find_in}
@@ -50,3 +51,10 @@ line_found r t k sound h =
     let there : k < length lines = omega (arith, lines_length r.rows t) in
     ap (λ (l : Line). find_in l.position lines) (sym (line_at r.rows k t h))
     ∙ found_same lines (sound_lines r t sound).rising (place_at lines k) k there (is_same (place_at lines k))
+
+-- the part of the table that begins where row k's text does, as long as its length byte says
+pub text_part : (t : List ℕ) (k start : ℕ) → start ≡ text_start k
+    → take ((start + get_or t (k * row_size + 29) 0) - start) (drop start t) ≡ text_of (row_at t k)
+text_part t k start e =
+    let own : (text_start k + get_or t (k * row_size + 29) 0) - text_start k ≡ get_or t (k * row_size + 29) 0 = omega arith in
+    rw (e, own, drop-drop, get_or-drop)

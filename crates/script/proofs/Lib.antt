@@ -5,4 +5,5 @@ pub mod Held
 pub mod Identifiers
 pub mod Kept
 pub mod Lent
+pub mod Scripts
 pub mod Tables

@@ -3,8 +3,8 @@
 -- Assumes nothing.
 use Rattle.std.specs.Prelude.{suc, List, [], ◌∷◌}
 use Rattle.position.specs.declared.Identifier.{Identifier}
-use Rattle.position.specs.declared.order.Order.{Order}
-use Rattle.position.specs.declared.order.Order.TheVariants.{Below, Same, Above}
+use Rattle.std.specs.declared.cmp.Ordering.{Ordering}
+use Rattle.std.specs.declared.cmp.Ordering.TheVariants.{Less, Equal, Greater}
 use Rattle.position.specs.Order.{order_of}
 use Rattle.script.specs.declared.table.Found.{Found}
 use Rattle.script.specs.declared.table.Found.TheVariants.{Row, Gap}
@@ -16,10 +16,10 @@ further (Row k) = Row (suc k)
 further (Gap k) = Gap (suc k)
 
 -- a line below: it stands further on; the same: here; above: it would stand here
-abbrev pub against : Order → Found → Found
-against Below rest = further rest
-against Same rest = Row 0
-against Above rest = Gap 0
+abbrev pub against : Ordering → Found → Found
+against Less rest = further rest
+against Equal rest = Row 0
+against Greater rest = Gap 0
 
 -- the row that has the position; where none has, the row where it would stand
 unfoldable pub find_in : List Identifier → List Line → Found

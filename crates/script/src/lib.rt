@@ -7,6 +7,10 @@
 // proofs/Tables.antt. Deciding soundness is the crate `sound`.
 #![tactic(auto)]
 
+ghost use Rattle.script.specs.Sound.{Sound};
+
+use record::Replica;
+
 pub mod row;
 pub mod table;
 
@@ -16,3 +20,12 @@ pub const ROWS: usize = 512;
 pub const ROW: usize = 78;
 
 pub const TABLE: usize = ROWS * ROW;
+
+// Record and table, which are sound together: whoever makes this value has tested them, and what takes it asks
+// nothing more.
+#[derive(Clone, Copy)]
+pub struct Script<'a> {
+    pub replica: Replica,
+    pub table: &'a [u8],
+    pub ghost sound: { ∥ Sound replica table.now ∥₁ },
+}

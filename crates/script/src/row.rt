@@ -8,7 +8,7 @@ ghost use Rattle.script.specs.Lines.{encode_identifier, encode_row, identifiers_
 use crate::ROW;
 use position::{Identifier, Position};
 use rows::moves::copy_front;
-use rows::numbers::{number_2, number_4, put_1, put_2, put_4};
+use rows::numbers::Number;
 
 // The 78 bytes of a line.
 pub fn encode(place: Position, number: u32, text: &[u8]) -> [u8; ROW]
@@ -16,26 +16,24 @@ pub fn encode(place: Position, number: u32, text: &[u8]) -> [u8; ROW]
     ensures { result ≡ encode_row (record { position = ids_of place; number = number; text = text.now }) }
 {
     let mut row = [0u8; ROW];
-    put_1(&mut row, 0, place.length() as u8);
-    put_identifiers(&mut row, place);
-    put_4(&mut row, 25, number);
-    put_1(&mut row, 29, text.len() as u8);
+    (place.length() as u8).put(&mut row, 0);
+    put_identifiers(&mut row, place.identifiers());
+    number.put(&mut row, 25);
+    (text.len() as u8).put(&mut row, 29);
     copy_front(&mut row[30..], text);
     row
 }
 
-// Writes the identifiers of a position into a row, from its second byte on.
-fn put_identifiers(row: &mut [u8], place: Position)
-    requires { 25 ≤ length row.old }
-    ensures { row.new ≡ written 1 (flat encode_identifier (ids_of place)) row.old }
+// Writes identifiers behind a count byte, from the second byte on: so they stand in a row, and in the place section of
+// a patch.
+#[tactic(auto, using(rows::proofs::Bytes::nothing_written), unfolding(rows::specs::Rows::flat))]
+pub fn put_identifiers(part: &mut [u8], ids: &[Identifier])
+    requires { (25 ≤ length part.old) × (length ids.now ≤ 8) }
+    ensures { part.new ≡ written 1 (flat encode_identifier ids.now) part.old }
 {
-    let used = place.length();
-    let mut i = 0;
-    while i < used {
-        let id = place.ids[i];
-        put_2(row, 1 + 3 * i, id.integer);
-        put_1(row, 3 + 3 * i, id.site);
-        i += 1;
+    for (i, id) in ids.iter().enumerate() {
+        id.integer.put(part, 1 + 3 * i);
+        id.site.put(part, 3 + 3 * i);
     }
 }
 
@@ -44,18 +42,13 @@ pub fn position(row: &[u8]) -> Position
     requires { (25 ≤ length row.now) × (used_of row.now ≤ 8) }
     ensures { result ≡ position_of (identifiers_of row.now) }
 {
-    let mut ids = [Identifier {
-        integer: 0,
-        site: 0,
-    }; Position::LIMIT];
     let used = row[0] as usize;
-    let mut i = 0;
-    while i < used {
+    let mut ids = [Identifier::default(); Position::LIMIT];
+    for i in 0..used {
         ids[i] = Identifier {
-            integer: number_2(row, 1 + 3 * i),
+            integer: u16::read(row, 1 + 3 * i),
             site: row[3 + 3 * i],
         };
-        i += 1;
     }
     Position { used, ids }
 }
@@ -65,5 +58,5 @@ pub fn number(row: &[u8]) -> u32
     requires { 29 ≤ length row.now }
     ensures { result ≡ number_of row.now }
 {
-    number_4(row, 25)
+    u32::read(row, 25)
 }

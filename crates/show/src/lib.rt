@@ -1,94 +1,59 @@
-// What the programs of this repository write: bytes as they are, bytes in hexadecimal, numbers,
-// counts, and positions as 01's listing has them; and how they read their input.
+// What the programs of this repository write for which std has no form, bytes in hexadecimal and counts, each as a
+// type that a `{}` takes; and how they read their input.
 //
-// Rests on `position`, and on `std` to read and write: what is written goes to standard output by the
-// program's runtime, and a write or a read that fails is returned as its error.
+// Rests on `std` alone. What a `{}` then writes is specs/Text.antt; a write or a read that fails is returned as its
+// error.
 #![tactic(auto)]
 
-ghost use Rattle.std.specs.Prelude.{◌≤◌, IfOk, length};
+ghost use Rattle.std.specs.Prelude.{◌≤◌, IfOk, Some, length};
+ghost use Rattle.show.specs.Text.{hex_text, counts_text};
 
-use position::{Identifier, Position};
-use std::io;
 use std::io::Read;
+use std::{fmt, io};
 
-// Fills a buffer from the front, up to the end of the input, and gives how many bytes were read.
+// Bytes in hexadecimal, two capital digits each.
+#[derive(Clone, Copy)]
+pub struct Hex<'a>(pub &'a [u8]);
+
+// Counts, that of site 1 first. Those that are not zero are written, as site:count behind a space.
+#[derive(Clone, Copy)]
+pub struct Counts<'a>(pub &'a [u32]);
+
+impl fmt::Display for Hex<'_> {
+    ghost output = { λ h. Some (hex_text h.0.now) };
+
+    fn fmt<W: fmt::Write>(&self, f: &mut fmt::Formatter<W>) -> fmt::Result {
+        for &byte in self.0 {
+            write!(f, "{byte:02X}")?;
+        }
+        Ok(())
+    }
+}
+
+impl fmt::Display for Counts<'_> {
+    ghost output = { λ c. Some (counts_text c.0.now) };
+
+    fn fmt<W: fmt::Write>(&self, f: &mut fmt::Formatter<W>) -> fmt::Result {
+        for (i, &count) in self.0.iter().enumerate() {
+            if count != 0 {
+                write!(f, " {}:{count}", i + 1)?;
+            }
+        }
+        Ok(())
+    }
+}
+
+// Fills a buffer from the front, up to the end of the input, and gives how many bytes were read. The loop
+// counts by hand, since std's `read_to_end` needs the heap and `read_exact` refuses an input that ends early.
 pub fn read_full<R: Read>(input: &mut R, buffer: &mut [u8]) -> io::Result<usize>
     ensures { IfOk result (λ n. n ≤ length buffer.new) }
 {
     let mut n = 0;
     while n < buffer.len() {
-        let more = input.read(&mut buffer[n..])?;
-        if more == 0 {
-            return Ok(n);
+        match input.read(&mut buffer[n..])? {
+            0 => break,
+            more => n += more,
         }
-        n += more;
     }
     Ok(n)
-}
-
-// Bytes as they are.
-pub fn write(rt: &impl Print, bytes: &[u8]) -> io::Result<()> {
-    rt.write_all(bytes)
-}
-
-// A number, in decimal.
-pub fn number(rt: &impl Print, n: u64) -> io::Result<()> {
-    print!(rt; "{n}")
-}
-
-// Bytes in hexadecimal, two digits each.
-pub fn hex(rt: &impl Print, bytes: &[u8]) -> io::Result<()> {
-    for b in bytes {
-        byte(rt, *b)?;
-    }
-    Ok(())
-}
-
-fn byte(rt: &impl Print, b: u8) -> io::Result<()> {
-    let pair = [digit(b / 16), digit(b % 16)];
-    write(rt, &pair)
-}
-
-// The hexadecimal digit of a number below 16.
-fn digit(n: u8) -> u8 {
-    if n < 10 {
-        48 + n
-    } else if n < 16 {
-        55 + n
-    } else {
-        63
-    }
-}
-
-// The counts that are not zero, as site:count.
-pub fn counts(rt: &impl Print, counts: [u32; 16]) -> io::Result<()> {
-    for i in 0..16 {
-        let count = counts[i];
-        if 0 < count {
-            write(rt, b" ")?;
-            number(rt, (i + 1) as u64)?;
-            write(rt, b":")?;
-            number(rt, count as u64)?;
-        }
-    }
-    Ok(())
-}
-
-// A position: its identifiers as integer.site, joined by commas.
-pub fn position(rt: &impl Print, p: Position) -> io::Result<()> {
-    for i in 0..Position::LIMIT {
-        if i < p.used {
-            identifier(rt, i, p.ids[i])?;
-        }
-    }
-    Ok(())
-}
-
-fn identifier(rt: &impl Print, i: usize, next: Identifier) -> io::Result<()> {
-    if 0 < i {
-        write(rt, b",")?;
-    }
-    number(rt, next.integer as u64)?;
-    write(rt, b".")?;
-    number(rt, next.site as u64)
 }

@@ -7,8 +7,8 @@ use native.Mathlib.Omega.{arith}
 use mathlib.Core.Path.{◌≡◌, refl, sym, ap, ◌∙◌}
 use mathlib.Core.Logic.{◌↔◌, ◌⊎◌, inl, inr, ⊎_elim}
 use mathlib.Core.List.{List}
-use Rattle.position.specs.declared.order.Order.{Order}
-use Rattle.position.specs.declared.order.Order.TheVariants.{Below, Same, Above}
+use Rattle.std.specs.declared.cmp.Ordering.{Ordering}
+use Rattle.std.specs.declared.cmp.Ordering.TheVariants.{Less, Equal, Greater}
 use Rattle.position.specs.Order.{then_by, number_order}
 use Rattle.position.proofs.Ordered.{Numbers, less, equal, more, numbers, never}
 use Rattle.position.proofs.Ordered.{less_below, below_less, equal_same, more_above}
@@ -16,23 +16,23 @@ use Rattle.rows.specs.Numbers.{num_at}
 use Rattle.rows.proofs.Digits.{Bytes, num_less, num_splits}
 
 -- the answer that fits two numbers is the one that they get
-answer : {a b : ℕ} (o : Order) → Numbers a b o → number_order a b ≡ o
-answer Below (less h) = less_below h
-answer {a} Same (equal e) = rw (← e) (equal_same a)
-answer Above (more h) = more_above h
+answer : {a b : ℕ} (o : Ordering) → Numbers a b o → number_order a b ≡ o
+answer Less (less h) = less_below h
+answer {a} Equal (equal e) = rw (← e) (equal_same a)
+answer Greater (more h) = more_above h
 
 module _ (B : ℕ) where
   -- less by the high part, whatever the low parts are
   high_less : (a b c d : ℕ) → b < B → a < c → a * B + b < c * B + d
   high_less a b c d h k = omega (arith, mul-le-mul_right B k)
 
-  by_parts : (a b c d : ℕ) (high low : Order) → b < B → d < B → Numbers a c high → Numbers b d low →
+  by_parts : (a b c d : ℕ) (high low : Ordering) → b < B → d < B → Numbers a c high → Numbers b d low →
       Numbers (a * B + b) (c * B + d) (then_by high low)
-  by_parts a b c d Below low h k (less l) n = less (high_less a b c d h l)
-  by_parts a b c d Same Below h k (equal e) (less l) = less (omega (arith, ap (λ (x : ℕ). x * B) e))
-  by_parts a b c d Same Same h k (equal e) (equal f) = equal (omega (arith, ap (λ (x : ℕ). x * B) e))
-  by_parts a b c d Same Above h k (equal e) (more l) = more (omega (arith, ap (λ (x : ℕ). x * B) e))
-  by_parts a b c d Above low h k (more l) n = more (high_less c d a b k l)
+  by_parts a b c d Less low h k (less l) n = less (high_less a b c d h l)
+  by_parts a b c d Equal Less h k (equal e) (less l) = less (omega (arith, ap (λ (x : ℕ). x * B) e))
+  by_parts a b c d Equal Equal h k (equal e) (equal f) = equal (omega (arith, ap (λ (x : ℕ). x * B) e))
+  by_parts a b c d Equal Greater h k (equal e) (more l) = more (omega (arith, ap (λ (x : ℕ). x * B) e))
+  by_parts a b c d Greater low h k (more l) n = more (high_less c d a b k l)
 
 -- of two numbers of m + n bytes the first m decide and, where these are the same, the n behind them
 pub compared : (m n at : ℕ) (s t : List ℕ) → Bytes s → Bytes t →
@@ -47,16 +47,16 @@ compared m n at s t h k =
     (answer _ (by_parts (256 ^ n) _ _ _ _ _ _ s-low t-low (numbers _ _) (numbers _ _)))
 
 below_then : (a b c d : ℕ) →
-    (then_by (number_order a b) (number_order c d) ≡ Below) ↔ ((a < b) ⊎ ((a ≡ b) × (c < d)))
+    (then_by (number_order a b) (number_order c d) ≡ Less) ↔ ((a < b) ⊎ ((a ≡ b) × (c < d)))
 below_then a b c d = by (number_order a b) (numbers a b)
   where
-    by : (o : Order) → Numbers a b o → (then_by o (number_order c d) ≡ Below) ↔ ((a < b) ⊎ ((a ≡ b) × (c < d)))
-    by Below (less h) = (λ e. inl h, λ w. refl)
-    by Same (equal e) =
+    by : (o : Ordering) → Numbers a b o → (then_by o (number_order c d) ≡ Less) ↔ ((a < b) ⊎ ((a ≡ b) × (c < d)))
+    by Less (less h) = (λ e. inl h, λ w. refl)
+    by Equal (equal e) =
         (λ r. inr (e, below_less c d r), ⊎_elim (λ l. absurd (omega arith)) (λ w. less_below w.1))
-    by Above (more h) = (λ e. never (cc), ⊎_elim (λ l. absurd (omega arith)) (λ w. absurd (omega arith)))
+    by Greater (more h) = (λ e. never (cc), ⊎_elim (λ l. absurd (omega arith)) (λ w. absurd (omega arith)))
 
--- the same, of `Below` alone
+-- the same, of `Less` alone
 pub less_by_parts : (m n at : ℕ) (s t : List ℕ) → Bytes s → Bytes t →
     (num_at (m + n) s at < num_at (m + n) t at)
     ↔ ((num_at m s at < num_at m t at)

@@ -1,4 +1,5 @@
 pub mod Compared
+pub mod Cut
 pub mod Decided
 pub mod FitRow
 pub mod Identifiers

@@ -1,22 +1,13 @@
 -- What the steps of the scan decide, byte by byte. `sound` promises what script's specs/Sound.antt
 -- says and nothing of this: the steps are tied to it in proofs/.
 -- Assumes nothing.
-use Rattle.std.specs.Prelude.{ℕ, zero, suc, ◌+◌, ◌-◌, ◌*◌, ◌%◌, ◌≤◌, ◌<◌, ◌≡◌, ◌⊎◌, List, [], ◌∷◌, ◌++◌, length, get_or, replicate}
+use Rattle.std.specs.Prelude.{ℕ, zero, suc, ◌+◌, ◌-◌, ◌*◌, ◌%◌, ◌≤◌, ◌<◌, ◌≡◌, ◌⊎◌, List, [], length, take, get_or}
+use Rattle.std.specs.Simd.{first_chunks}
 use Rattle.position.specs.Positions.{Proper, identifier}
 use Rattle.rows.specs.Numbers.{num_at}
 use Rattle.rows.specs.Rows.{Upto, AllZero}
 use Rattle.record.specs.Records.{count_of}
-use Rattle.script.specs.Lines.{table_size, used_of, number_of, text_length_of, row_at}
-
--- The masks: 48 zeros and 48 of 255, so that what stands from 48 - n on is zero before place n and
--- 255 from it on; and 255 where one of the eight identifiers starts.
-abbrev pub behind_mask : List ℕ
-behind_mask = replicate 48 0 ++ replicate 48 255
-
-abbrev pub start_mask : List ℕ
-start_mask =
-    255 ∷ 0 ∷ 0 ∷ 255 ∷ 0 ∷ 0 ∷ 255 ∷ 0 ∷ 0 ∷ 255 ∷ 0 ∷ 0 ∷
-    255 ∷ 0 ∷ 0 ∷ 255 ∷ 0 ∷ 0 ∷ 255 ∷ 0 ∷ 0 ∷ 255 ∷ 0 ∷ 0 ∷ replicate 8 0
+use Rattle.script.specs.Lines.{table_size, row_size, used_of, number_of, text_length_of, row_at}
 
 -- an identifier that starts at byte j of the eight is proper, and has no site where it is unused
 abbrev pub SlotFits : ℕ → List ℕ → ℕ → Type 0
@@ -56,23 +47,31 @@ word row k = num_at 8 row (k * 8 + 1)
 abbrev pub RowRises : List ℕ → List ℕ → Type 0
 RowRises a b = Rises (word a 0) (word a 1) (word a 2) (word b 0) (word b 1) (word b 2)
 
+-- the first n rows of a table, 78 bytes each
+abbrev pub rows_in : ℕ → List ℕ → List (List ℕ)
+rows_in n table = first_chunks row_size n (take (n * row_size) table)
+
+-- row i; behind the last, a row of no bytes
+abbrev pub row_of : List (List ℕ) → ℕ → List ℕ
+row_of rows i = get_or rows i []
+
 -- the row before row i; before the first, a row of no bytes, which is read as zeros
-unfoldable pub row_before : List ℕ → ℕ → List ℕ
-row_before table zero = []
-row_before table (suc i) = row_at table i
+unfoldable pub row_before : List (List ℕ) → ℕ → List ℕ
+row_before rows zero = []
+row_before rows (suc i) = row_of rows i
 
 -- all that is decided of row i in its turn
-pub record Fits (counts table : List ℕ) (i : ℕ) : Type 0 where
-  pub row : RowFits counts (row_at table i)
-  pub rises : RowRises (row_before table i) (row_at table i)
+pub record Fits (counts : List ℕ) (rows : List (List ℕ)) (i : ℕ) : Type 0 where
+  pub row : RowFits counts (row_of rows i)
+  pub rises : RowRises (row_before rows i) (row_of rows i)
 
 -- the first integer of the last row; those of the rows before it are not above it, since rows rise
-abbrev pub LastFits : ℕ → List ℕ → Type 0
-LastFits rows table = 1 ≤ rows → num_at 2 (row_at table (rows - 1)) 1 ≤ 65534
+abbrev pub LastFits : List (List ℕ) → Type 0
+LastFits rows = 1 ≤ length rows → num_at 2 (row_of rows (length rows - 1)) 1 ≤ 65534
 
 -- all that the scan decides of a table
 pub record TableFits (rows : ℕ) (counts table : List ℕ) : Type 0 where
   pub size : length table ≡ table_size
-  pub each : Upto rows (Fits counts table)
-  pub last : LastFits rows table
+  pub each : Upto rows (Fits counts (rows_in rows table))
+  pub last : LastFits (rows_in rows table)
   pub unused : AllZero (row_at table rows)

@@ -1,3 +1,6 @@
 pub mod Before
+pub mod Behind
+pub mod Lined
+pub mod Placed
 pub mod RoundTrip
 pub mod Writes

@@ -44,3 +44,5 @@ module _ (p : Patch) (text buffer : List ℕ) where
       by_cases (well_formed? p text)
       (λ good. (room, good))
       (λ wrong. absurd (omega (arith, done, ap (λ (w : Writing). w.answer) (malformed room wrong)))))
+
+pub ruleset steps = (too_short, malformed, written_done)

@@ -7,145 +7,108 @@
 
 ghost use Rattle.std.specs.Prelude.{◌≡◌, ◌+◌, ◌≤◌, length};
 ghost use Rattle.position.specs.Positions.{ids_of};
-ghost use Rattle.rows.specs.Rows.{written};
+ghost use Rattle.format.specs.Answers.{done_number, length_given};
+ghost use Rattle.format.specs.Kinds.{kind_byte};
 ghost use Rattle.format.specs.Patches.{head_size, before_most, place_most, line_most, most_size, kind_of, head_bytes, before_bytes, place_bytes, line_bytes, patch_bytes};
 ghost use Rattle.format.specs.WellFormed.{LineFits, WellFormed};
+ghost use Rattle.writer.specs.Put.{Put};
 ghost use Rattle.writer.specs.Write.{write_patch};
 
-use format::answers::{DONE, MALFORMED, SHORT_BUFFER};
+use format::answers::Refusal;
 use format::rules::well_formed;
-use format::{ENTRY, Edit, HEAD, IDENTIFIER, MOST, Patch, TEXT};
+use format::{ENTRY, Edit, HEAD, IDENTIFIER, Kind, MOST, Patch, TEXT};
 use position::Position;
 use record::SITES;
-use rows::moves::copy_front;
-use rows::numbers::{put_1, put_2, put_4};
+use rows::numbers::Number;
+use script::row::put_identifiers;
 
-// The answer, and how many bytes were written: 0 where it is refused.
-#[derive(Clone, Copy)]
-pub struct Written {
-    pub answer: u32,
-    pub length: usize,
-}
-
-// Writes a patch with its text at the front of a buffer of at least 161 bytes. The bytes behind it
-// stay, and so does the whole buffer where it is refused.
-#[tactic(auto, using(crate::proofs::Writes::too_short, crate::proofs::Writes::malformed, crate::proofs::Writes::written_done))]
-pub fn write(p: Patch, text: &[u8; TEXT], buffer: &mut [u8]) -> Written
-    ensures { record { answer = result.answer; length = result.length; buffer = buffer.new } ≡ write_patch p text.now buffer.old }
+// Writes a patch with its text at the front of a buffer of at least 161 bytes, and gives how many bytes it has. The
+// bytes behind it stay, and so does the whole buffer where it is refused.
+#[tactic(auto, using(crate::proofs::Writes::steps))]
+pub fn write(p: Patch, text: &[u8; TEXT], buffer: &mut [u8]) -> Result<usize, Refusal>
+    ensures { record { answer = done_number result; length = length_given result; buffer = buffer.new } ≡ write_patch p text.now buffer.old }
 {
     if buffer.len() < MOST {
-        return Written {
-            answer: SHORT_BUFFER,
-            length: 0,
-        };
+        return Err(Refusal::ShortBuffer);
     }
-    if well_formed(p, text) {
-        let length = put_patch(p, text, buffer);
-        Written {
-            answer: DONE,
-            length,
-        }
-    } else {
-        Written {
-            answer: MALFORMED,
-            length: 0,
-        }
+    if !well_formed(p, text) {
+        return Err(Refusal::Malformed);
     }
+    Ok(put_patch(p, text, buffer))
 }
 
-// The four sections, one behind the other; gives how many bytes they are.
-#[tactic(auto, using(format::proofs::Sections::before_most_lem, format::proofs::Sections::place_most_lem))]
+// The four sections, one behind the other; gives how many bytes they are. Each is written at the front of the part of
+// the buffer that is left, and gives how many bytes it has.
+#[tactic(auto, using(crate::proofs::Behind::rooms))]
 fn put_patch(p: Patch, text: &[u8; TEXT], buffer: &mut [u8]) -> usize
     requires { WellFormed p text.now × (most_size ≤ length buffer.old) }
-    ensures { (result ≡ length (patch_bytes p text.now)) × (buffer.new ≡ written 0 (patch_bytes p text.now) buffer.old) }
+    ensures { Put (patch_bytes p text.now) buffer.old result buffer.new }
 {
-    let edit = p.edit;
-    let before = p.before;
-    put_head(kind(edit), p.author, p.number, buffer);
-    let place_at = put_before(before, buffer, HEAD);
-    let line_at = put_place(p.place, buffer, place_at);
-    put_line(edit, text, buffer, line_at)
-}
-
-// 1 insert, 2 delete.
-fn kind(edit: Edit) -> u8
-    ensures { result ≡ kind_of edit }
-{
-    match edit {
-        Edit::Insert(length) => 1,
-        Edit::Delete(number) => 2,
-    }
+    let before_at = put_head(p.edit.kind(), p.author, p.number, buffer);
+    let place_at = before_at + put_before(p.before, &mut buffer[before_at..]);
+    let line_at = place_at + put_place(p.place, &mut buffer[place_at..]);
+    line_at + put_line(p.edit, text, &mut buffer[line_at..])
 }
 
 // The head: kind, author, number.
-fn put_head(kind: u8, author: u8, number: u32, buffer: &mut [u8])
-    requires { head_size ≤ length buffer.old }
-    ensures { buffer.new ≡ written 0 (head_bytes kind author number) buffer.old }
+#[tactic(auto, using(crate::proofs::Behind::head_steps))]
+fn put_head(kind: Kind, author: u8, number: u32, part: &mut [u8]) -> usize
+    requires { head_size ≤ length part.old }
+    ensures { Put (head_bytes (kind_byte kind) author number) part.old result part.new }
 {
-    put_1(buffer, 0, kind);
-    put_1(buffer, 1, author);
-    put_4(buffer, 2, number);
+    u8::from(kind).put(part, 0);
+    author.put(part, 1);
+    number.put(part, 2);
+    HEAD
 }
 
-// Before: the counts that are not zero, each behind its site. Gives the spot behind it, as the next two
-// do.
-fn put_before(counts: [u32; SITES], buffer: &mut [u8], at: usize) -> usize
-    requires { at + before_most ≤ length buffer.old }
-    ensures { (result ≡ at + length (before_bytes counts)) × (buffer.new ≡ written at (before_bytes counts) buffer.old) }
+// Before: the number of its entries, then the counts that are not zero, each behind its site.
+#[tactic(auto, using(crate::proofs::Before::steps))]
+fn put_before(counts: [u32; SITES], part: &mut [u8]) -> usize
+    requires { before_most ≤ length part.old }
+    ensures { Put (before_bytes counts) part.old result part.new }
 {
-    let mut end = at + 1;
-    let mut entries = 0u8;
-    let mut i = 0;
-    while i < SITES {
-        let count = counts[i];
-        if 0 < count {
-            put_1(buffer, end, (i + 1) as u8);
-            put_4(buffer, end + 1, count);
-            end = end + ENTRY;
-            entries = entries + 1;
+    let mut entries = 0;
+    for (i, count) in counts.iter().enumerate() {
+        if *count > 0 {
+            let at = 1 + ENTRY * entries;
+            (i as u8 + 1).put(part, at);
+            count.put(part, at + 1);
+            entries += 1;
         }
-        i = i + 1;
     }
-    put_1(buffer, at, entries);
-    end
+    (entries as u8).put(part, 0);
+    1 + ENTRY * entries
 }
 
 // The place: the number of its identifiers, then each.
-fn put_place(place: Position, buffer: &mut [u8], at: usize) -> usize
-    requires { at + place_most ≤ length buffer.old }
-    ensures { (result ≡ at + length (place_bytes (ids_of place))) × (buffer.new ≡ written at (place_bytes (ids_of place)) buffer.old) }
+#[tactic(auto, using(crate::proofs::Placed::steps))]
+fn put_place(place: Position, part: &mut [u8]) -> usize
+    requires { place_most ≤ length part.old }
+    ensures { Put (place_bytes (ids_of place)) part.old result part.new }
 {
-    let used = place.length();
-    put_1(buffer, at, used as u8);
-    let mut end = at + 1;
-    let mut i = 0;
-    while i < used {
-        let id = place.ids[i];
-        put_2(buffer, end, id.integer);
-        put_1(buffer, end + 2, id.site);
-        end = end + IDENTIFIER;
-        i = i + 1;
-    }
-    end
+    let ids = place.identifiers();
+    (ids.len() as u8).put(part, 0);
+    put_identifiers(part, ids);
+    1 + IDENTIFIER * ids.len()
 }
 
 // The line: the text of an insert, or the number of the line that a delete strikes.
-fn put_line(edit: Edit, text: &[u8; TEXT], buffer: &mut [u8], at: usize) -> usize
-    requires { LineFits edit text.now × (at + line_most ≤ length buffer.old) }
-    ensures { (result ≡ at + length (line_bytes edit text.now)) × (buffer.new ≡ written at (line_bytes edit text.now) buffer.old) }
+#[tactic(auto, using(crate::proofs::Lined::steps))]
+fn put_line(edit: Edit, text: &[u8; TEXT], part: &mut [u8]) -> usize
+    requires { LineFits edit text.now × (line_most ≤ length part.old) }
+    ensures { Put (line_bytes edit text.now) part.old result part.new }
 {
     match edit {
         Edit::Insert(length) => {
-            let whole = &text[..];
-            let from = at + 1;
-            put_1(buffer, at, length as u8);
-            copy_front(&mut buffer[from..], &whole[0..length]);
-            from + length
+            (length as u8).put(part, 0);
+            part[1..1 + length].copy_from_slice(&text[..length]);
+            1 + length
         }
         Edit::Delete(number) => {
-            put_1(buffer, at, 4);
-            put_4(buffer, at + 1, number);
-            at + 5
+            4u8.put(part, 0);
+            number.put(part, 1);
+            1 + 4
         }
     }
 }

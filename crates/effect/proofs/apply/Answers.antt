@@ -9,6 +9,6 @@ returns c =
     let left = c.edit_table-changed.ensures in
     λ d. record {
       answer = left.answer d;
-      replica = record { site = c.args.r.site; rows = left.rows d; counts = c.raised-next.ensures d };
+      replica = record { site = c.args.r.site; rows = left.rows d; counts = c.raised.ensures d };
       table = left.bytes d;
     }

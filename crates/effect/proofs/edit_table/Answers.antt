@@ -1,8 +1,7 @@
 -- An insert's line is put in where its place was found to stand, and a delete strikes the line at its
 -- place.
 -- Assumes nothing.
-use Rattle.std.proofs.Common.{◌≡◌, true, ◌≤◌, ◌<◌, ℕ, ◌+◌, ◌-◌, ◌*◌, List, take, refl, ap, ◌∙◌, arith, rules}
-use native.Mathlib.Nat.{sub-zero}
+use Rattle.std.proofs.Common.{◌≡◌, true, ◌≤◌, ◌<◌, ℕ, ◌+◌, ◌*◌, List, take, refl, ap, ◌∙◌, arith, rules}
 use Rattle.position.specs.Positions.{ids_of}
 use Rattle.rows.specs.Rows.{put_in, within}
 use Rattle.rows.proofs.Digits.{Bytes}
@@ -13,6 +12,7 @@ use Rattle.script.specs.Lines.{Line, row_size, encode_row, decode_table}
 use Rattle.script.proofs.Tables.{lines_length}
 use Rattle.script.proofs.Kept.{put_bytes}
 use Rattle.format.specs.declared.Edit.TheVariants.{Insert, Delete}
+use Rattle.format.specs.declared.answers.Success.TheVariants.{Done}
 use Rattle.format.specs.declared.Patch.{Patch}
 use Rattle.effect.specs.declared.Changed.{Changed}
 use Rattle.effect.specs.Effect.{row_of, is_row, put, numbered, line_row, without, strike, edited}
@@ -39,10 +39,10 @@ module _ {r : Replica} {t : List ℕ} {p : Patch} {text : List ℕ} {found : Fou
 
   -- the line of an insert is put in there
   line_put : {n k : ℕ} {row after : List ℕ} → Bytes t → p.edit ≡ Insert n → k ≡ row_of found
-      → row ≡ encode_row (record { position = ids_of p.place; number = p.number; text = take (n - 0) text })
+      → row ≡ encode_row (record { position = ids_of p.place; number = p.number; text = take n text })
       → after ≡ within ((r.rows + 1) * row_size) (put_in (k * row_size) row) t
       → Leaves (edited p p.edit text lines) (done_answer p p.edit lines)
-      (record { rows = r.rows + 1; answer = 0 }) after
+      (record { rows = r.rows + 1; success = Done }) after
   unfolding edited put done_answer
   line_put {n} b e at bytes is =
       let l : Line = record { position = ids_of p.place; number = p.number; text = take n text } in
@@ -50,7 +50,7 @@ module _ {r : Replica} {t : List ℕ} {p : Patch} {text : List ℕ} {found : Fou
       (record {
         rows = omega (arith, insert_length (row_of found) l lines, lines_length r.rows t);
         answer = refl;
-        bytes = is ∙ rw (at, bytes, sub-zero n) (put_bytes r t b ready.sound (row_of found) l inside (room e));
+        bytes = is ∙ rw (at, bytes) (put_bytes r t b ready.sound (row_of found) l inside (room e));
       })
 
   -- what is left where the row found is struck is what a delete leaves

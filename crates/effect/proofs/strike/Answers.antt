@@ -14,6 +14,7 @@ use Rattle.script.specs.Lines.{Line, row_size, number_of, row_at, decode_table}
 use Rattle.script.specs.Sound.{Sound}
 use Rattle.script.proofs.Tables.{lines_length, sound_encoded}
 use Rattle.script.proofs.Kept.{out_bytes}
+use Rattle.format.specs.declared.answers.Success.TheVariants.{Done, Gone}
 use Rattle.effect.specs.declared.Changed.{Changed}
 use Rattle.effect.specs.Effect.{numbered, without, struck_answer}
 use Rattle.effect.specs.Steps.{Leaves}
@@ -32,7 +33,7 @@ module _ {r : Replica} {t : List ℕ} (b : Bytes t) (sound : Sound r t) (number 
   -- the row has the number
   row_taken : {k : ℕ} {after : List ℕ} → found ≡ Row k → k < r.rows → number_of (row_at t k) ≡ number
       → after ≡ within (r.rows * row_size) (take_out (k * row_size) row_size) t
-      → Struck (record { rows = r.rows - 1; answer = 0 }) after
+      → Struck (record { rows = r.rows - 1; success = Done }) after
   row_taken {k} is there same out =
       let rows = lines_length r.rows t in
       rw (is, same_number number r.rows k t there same)
@@ -43,7 +44,7 @@ module _ {r : Replica} {t : List ℕ} (b : Bytes t) (sound : Sound r t) (number 
       })
 
   -- no row found has it
-  nothing_taken : numbered number lines found ≡ none → Struck (record { rows = r.rows; answer = 15 }) t
+  nothing_taken : numbered number lines found ≡ none → Struck (record { rows = r.rows; success = Gone }) t
   nothing_taken gone =
       rw gone
       (record {
@@ -54,11 +55,11 @@ module _ {r : Replica} {t : List ℕ} (b : Bytes t) (sound : Sound r t) (number 
 
   -- the row found has another
   other_row : {k : ℕ} → found ≡ Row k → k < r.rows → (number_of (row_at t k) ≡ number → ⊥)
-      → Struck (record { rows = r.rows; answer = 15 }) t
+      → Struck (record { rows = r.rows; success = Gone }) t
   other_row {k} is there other = nothing_taken (rw is (other_number number r.rows k t there other))
 
-pub returns-then-number : goal.returns-then-number
-returns-then-number c =
+pub returns-in-Row : goal.returns-in-Row
+returns-in-Row c =
     let r = c.args.r in
     let t = c.args.table.now in
     let b : Bytes t = λ i. search rules in
@@ -67,15 +68,15 @@ returns-then-number c =
     row_taken b c.requires.0 c.args.number c.args.found c.in-Row.is in_use
     (sym read ∙ c.if-number.true) c.take_row.ensures
 
-pub returns-else-number : goal.returns-else-number
-returns-else-number c =
+pub returns-in_default : goal.returns-in_default
+returns-in_default c =
     let t = c.args.table.now in
     let b : Bytes t = λ i. search rules in
     let read = c.number.ensures ∙ ap number_of (rest_lent (c.in-Row.k * row_size) t) in
     let in_use = (rw c.in-Row.is at c.requires.1) refl in
     other_row b c.requires.0 c.args.number c.args.found c.in-Row.is in_use (λ same. c.if-number.false (read ∙ same))
 
-pub returns-in-Gap : goal.returns-in-Gap
-returns-in-Gap c =
+pub returns-in_default-2 : goal.returns-in_default-2
+returns-in_default-2 c =
     let b : Bytes c.args.table.now = λ i. search rules in
-    nothing_taken b c.requires.0 c.args.number c.args.found (rw c.in-Gap.is)
+    nothing_taken b c.requires.0 c.args.number c.args.found (search rules)

@@ -1,19 +1,18 @@
 -- `replica_compare` meets its contract: each answer is the first check that holds, the lengths before the counts.
 -- Assumes nothing.
-use Prim.Native.Nat.{ℕ}
-use borrow.Author.Rules.{rules}
+use Rattle.std.proofs.Common.{ℕ, ◌≡◌, refl, sym, ap, ◌∙◌, Bool, List, length, replicate, map, Option, Result, Ok, Err, rules}
 use borrow.Author.Tests.{eq-eqb}
-use mathlib.Core.Path.{◌≡◌, refl, sym, ◌∙◌}
-use mathlib.Core.Bool.{Bool}
-use mathlib.Core.List.{List, zip_with}
-use lib.ListN.{length, replicate}
+use mathlib.Core.List.{zip_with}
 use Rattle.rows.specs.Rows.{flat}
 use Rattle.record.specs.Records.{counts_size, counts_of}
-use Rattle.format.specs.Answers.{first_of}
+use Rattle.format.specs.declared.answers.Refusal.{Refusal}
+use Rattle.format.specs.Answers.{first_of, refusal_number}
 use Rattle.format.proofs.Checked.{passed_done, answer_done, refused_alike}
-use Rattle.replica.specs.declared.compare.Compared.{Compared}
-use Rattle.replica.specs.Compare.{no_lack, lack_of, compare_checks, compare_call}
+use Rattle.replica.specs.declared.compare.Missing.{Missing}
+use Rattle.replica.specs.Compare.{Compared, no_lack, lack_of, lack_given, compared, compare_checks, compare_call}
 use Rattle.host.specs.Calls.{lacks_size, lack_bytes, ComparedBytes, compare_bytes}
+use Rattle.host.proofs.Calls.{refusal_not_0}
+use Rattle.host.proofs.replica_compare.Goals.{then-first-ne-COUNTS-via-then-first-ne-COUNTS, then-first-ne-COUNTS-via-else-first-ne-COUNTS+then-second-ne-COUNTS, then-first-ne-COUNTS-via-else-first-ne-COUNTS+else-second-ne-COUNTS+then-res-ne-LACKS}
 use Rattle.host.proofs.replica_compare.Goals as goal
 
 -- where all lengths are right, the checks of the counts are left
@@ -61,43 +60,43 @@ module _ (first second res : List ℕ) (size : length first ≡ counts_size) (si
       sym (counts_left ∙ passed_done stays lacked checks told.0)
 
   -- the same of what the code compared
-  module _ {a b : List ℕ} {c : Compared} (read : a ≡ counts_of first) (read' : b ≡ counts_of second)
-      (made : c ≡ compare_call a b) where
-    is_call : c ≡ call
+  module _ {a b : List ℕ} (given : Result (List (Option Missing)) Refusal) (read : a ≡ counts_of first) (read' : b ≡ counts_of second)
+      (made : compared given ≡ compare_call a b) where
+    is_call : compared given ≡ call
     is_call = made ∙ rw (read, read')
 
-    not_compared : (c.answer ≡ 0 → ⊥) → stays c.answer ≡ bytes
-    not_compared other = rw is_call (counts_refused (rw is_call at other))
+    refused : (why : Refusal) → given ≡ Err why → stays (refusal_number why) ≡ bytes
+    refused why err =
+        let told : call ≡ compared (Err why) = sym is_call ∙ ap compared err in
+        let answer = ap (λ (c : Compared). c.answer) told in
+        sym (ap stays answer) ∙ counts_refused (λ e. refusal_not_0 why (sym answer ∙ e))
 
-    compared : {after : List ℕ} → c.answer ≡ 0 → after ≡ flat lack_bytes c.sites
-        → record { answer = c.answer; result = after } ≡ bytes
-    compared answered wrote = rw (answered, wrote, is_call) (counts_compared (rw is_call at answered))
+    all_given : (sites : List (Option Missing)) {after : List ℕ} → given ≡ Ok sites → after ≡ flat lack_bytes (map lack_given sites)
+        → record { answer = 0; result = after } ≡ bytes
+    all_given sites ok wrote =
+        let told : call ≡ compared (Ok sites) = sym is_call ∙ ap compared ok in
+        rw (wrote, ← ap (λ (c : Compared). c.sites) told) (counts_compared (ap (λ (c : Compared). c.answer) told))
 
--- 1: the first has a wrong length
+-- 1: a length is wrong
 pub returns-then-first-ne-COUNTS : goal.returns-then-first-ne-COUNTS
 unfolding compare_bytes first_of
-returns-then-first-ne-COUNTS c = search rules
+returns-then-first-ne-COUNTS c =
+    elim c.then-first-ne-COUNTS.branch [
+      | then-first-ne-COUNTS-via-then-first-ne-COUNTS w ↦ search rules
+      | then-first-ne-COUNTS-via-else-first-ne-COUNTS+then-second-ne-COUNTS w ↦ search rules
+      | then-first-ne-COUNTS-via-else-first-ne-COUNTS+else-second-ne-COUNTS+then-res-ne-LACKS w ↦ search rules
+    ]
 
--- or the second has
-pub returns-then-second-ne-COUNTS : goal.returns-then-second-ne-COUNTS
-unfolding compare_bytes first_of
-returns-then-second-ne-COUNTS c = search rules
-
--- or the result has
-pub returns-then-res-ne-LACKS : goal.returns-then-res-ne-LACKS
-unfolding compare_bytes first_of
-returns-then-res-ne-LACKS c = search rules
-
-pub returns-then-compared-eq-DONE : goal.returns-then-compared-eq-DONE
-returns-then-compared-eq-DONE c =
+pub returns-in-Ok : goal.returns-in-Ok
+returns-in-Ok c =
     let a = c.args in
-    compared a.first.now a.second.now a.res.now c.if-first-ne-COUNTS.false c.if-second-ne-COUNTS.false
-    c.if-res-ne-LACKS.false c.read_counts.ensures c.read_counts-2.ensures c.compare_counts-compared.ensures
-    c.if-compared-eq-DONE.true c.write_lacks.ensures
+    rw c.from-in-Ok.ensures
+    (all_given a.first.now a.second.now a.res.now c.if-first-ne-COUNTS.false c.if-second-ne-COUNTS.false
+    c.if-res-ne-LACKS.false _ c.read_counts.ensures c.read_counts-2.ensures c.compare_counts.ensures _ c.in-Ok.is c.write_lacks.ensures)
 
-pub returns-else-compared-eq-DONE : goal.returns-else-compared-eq-DONE
-returns-else-compared-eq-DONE c =
+pub returns-in-Err : goal.returns-in-Err
+returns-in-Err c =
     let a = c.args in
-    not_compared a.first.now a.second.now a.res.now c.if-first-ne-COUNTS.false c.if-second-ne-COUNTS.false
-    c.if-res-ne-LACKS.false c.read_counts.ensures c.read_counts-2.ensures c.compare_counts-compared.ensures
-    c.if-compared-eq-DONE.false
+    rw c.from-in-Err.ensures
+    (refused a.first.now a.second.now a.res.now c.if-first-ne-COUNTS.false c.if-second-ne-COUNTS.false
+    c.if-res-ne-LACKS.false _ c.read_counts.ensures c.read_counts-2.ensures c.compare_counts.ensures _ c.in-Err.is)

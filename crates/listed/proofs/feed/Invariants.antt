@@ -1,16 +1,10 @@
--- What is left of the input, from here, gives what the whole input gives; no patch is empty, so that places are
--- not above bytes.
-use Rattle.std.proofs.Common.{◌≡◌, ◌+◌, ◌-◌, ◌≤◌, length}
+-- What is left of the patches, from here, gives what the whole input gives.
+use Rattle.std.proofs.Common.{◌+◌}
+use Rattle.listed.specs.Steps.{patches_left}
 use Rattle.listed.proofs.Feeding.{Left}
 use Rattle.listed.proofs.feed.Given as goal
 
-abbrev pub invariant-loop-at : goal.invariant-loop-at
-invariant-loop-at l = record {
-  places : l.place ≤ l.at + 1;
-  counts : length l.replica.counts ≡ 16;
-  left : Left l.input (record { length = 0; bytes = l.fn.out }) l.replica l.table l.place l.at (record { length = l.length; bytes = l.out });
-}
-
--- how many bytes are left
-abbrev pub decreases-loop-at : goal.decreases-loop-at
-decreases-loop-at l = length l.input - l.at
+abbrev pub invariant-loop-k : goal.invariant-loop-k
+invariant-loop-k l =
+    let patches = l.k-iterator in
+    Left l.input l.fn.out l.replica l.table (patches.count + 1) (patches_left patches.iter) l.out

@@ -1,28 +1,38 @@
--- `read_first` meets its contract: reading has stopped, the fields do not agree, or the sections read are
+-- `read_first` meets its contract: a section is not there, the fields do not agree, or the sections read are
 -- the first patch.
 -- Assumes nothing.
-use Rattle.std.proofs.Common.{◌∙◌}
+use Rattle.std.proofs.Common.{◌≡◌}
 use Rattle.rows.proofs.Answers.{no_answer}
-use Rattle.reader.proofs.Whole.{stopped_refused, fields, agreed_read, disagreed_refused}
+use Rattle.reader.specs.Read.{read_first, taken}
+use Rattle.reader.proofs.Composed.{handed}
+use Rattle.reader.proofs.Whole.{none_taken, without_head, without_before, without_place, without_line, agreed, disagreed}
 use Rattle.reader.proofs.read_first.Goals as goal
 
-pub returns-then-line : goal.returns-then-line
-returns-then-line c =
-    c.refused.ensures
-    ∙ stopped_refused c.start.ensures c.head-head.ensures c.before-before.ensures c.place-place.ensures c.line-line.ensures c.if-line.true
+pub returns-in_err-head : goal.returns-in_err-head
+returns-in_err-head c =
+    rw c.from_residual.ensures (none_taken (without_head (rw c.start.ensures at c.in_err-head.ensures)))
 
-pub agrees-requires : goal.agrees-requires
-agrees-requires c =
-    let fits = fields c.start.ensures c.head-head.ensures c.before-before.ensures c.place-place.ensures c.line-line.ensures c.if-line.false in
-    (fits.head, fits.place)
+pub returns-in_err-before : goal.returns-in_err-before
+returns-in_err-before c =
+    rw c.from_residual-in_err-before.ensures
+    (none_taken (without_before (rw c.start.ensures at c.in_ok-head.ensures) c.in_err-before.ensures))
 
-pub returns-then-agrees : goal.returns-then-agrees
-returns-then-agrees c =
-    agreed_read c.start.ensures c.head-head.ensures c.before-before.ensures c.place-place.ensures c.line-line.ensures c.if-line.false
-    (c.agrees.ensures.0 c.if-agrees.true)
+pub returns-in_err-place : goal.returns-in_err-place
+returns-in_err-place c =
+    rw c.from_residual-in_err-place.ensures
+    (none_taken (without_place (rw c.start.ensures at c.in_ok-head.ensures) c.in_ok-before.ensures c.in_err-place.ensures))
 
-pub returns-else-agrees : goal.returns-else-agrees
-returns-else-agrees c =
-    c.refused-else-agrees.ensures
-    ∙ disagreed_refused c.start.ensures c.head-head.ensures c.before-before.ensures c.place-place.ensures c.line-line.ensures c.if-line.false
-    (λ agrees. no_answer _ c.if-agrees.false (c.agrees.ensures.1 agrees))
+pub returns-in_err-line : goal.returns-in_err-line
+returns-in_err-line c =
+    rw c.from_residual-in_err-line.ensures
+    (none_taken
+    (without_line (rw c.start.ensures at c.in_ok-head.ensures) c.in_ok-before.ensures c.in_ok-place.ensures c.in_err-line.ensures))
+
+pub returns : goal.returns
+returns c =
+    let head = rw c.start.ensures at c.in_ok-head.ensures in
+    handed (λ r. r ≡ taken (read_first c.args.s.now)) c.agrees.result c.then_some.ensures
+    (λ good. agreed head c.in_ok-before.ensures c.in_ok-place.ensures c.in_ok-line.ensures (c.agrees.ensures.0 good))
+    (λ wrong.
+    disagreed head c.in_ok-before.ensures c.in_ok-place.ensures c.in_ok-line.ensures
+    (λ agrees. no_answer c.agrees.result wrong (c.agrees.ensures.1 agrees)))

@@ -1,7 +1,6 @@
 -- The measure of `compare_rest`: the number of identifiers of p that are left.
-use Rattle.std.proofs.Common.{◌-◌, length}
-use Rattle.position.specs.Positions.{ids_of}
+use Rattle.std.proofs.Common.{length}
 use Rattle.position.proofs.order.+compare_rest.Given as goal
 
 abbrev pub decreases-compare_rest : goal.decreases-compare_rest
-decreases-compare_rest l = length (ids_of l.p) - l.at
+decreases-compare_rest l = length l.p.now

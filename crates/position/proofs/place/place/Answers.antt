@@ -5,22 +5,18 @@ use Rattle.position.specs.declared.Identifier.{Identifier}
 use Rattle.position.specs.declared.Position.{Position}
 use Rattle.position.specs.Positions.{ids_of, position_of}
 use Rattle.position.specs.Rule.{followed_by}
-use Rattle.position.specs.Place.{Front, front_at, x_of, first_over, room_at, room_from, room_of, place_of}
-use Rattle.position.proofs.Ids.{position_ids, is_front}
-use Rattle.position.proofs.Rooms.{front_short, room_none, room_here, room_later, room_starts, room_is, place_in, place_none}
+use Rattle.position.specs.Place.{front_at, x_of, first_over, room_at, room_from, room_of, place_of}
+use Rattle.position.proofs.Ids.{position_ids}
+use Rattle.position.proofs.Rooms.{fronted, room_none, room_here, room_later, room_is, place_in, place_none}
 use Rattle.position.proofs.place.place.Goals as goal
 
 module _ (p q : List Identifier) where
-  -- the value of a front is one that the steps take
-  fronted : (k : ℕ) {f : Position} → f ≡ position_of (front_at p q k) → k < 8 → Front f
-  fronted k {f} e h = is_front f (front_at p q k) e (front_short p q k h)
-
   module _ (s k : ℕ) (left : k < 8) (same : room_from p q s (8 - k) k ≡ room_of p q s) where
     -- what the calls behind front k tell of it: the first x over p, the first from 1 on, and the first over q
-    module _ (f : Position) (first lo past : ℕ) (e : f ≡ position_of (front_at p q k)) (over : first ≡ first_over 1 p (ids_of f) s) (low : lo ≡ max 1 first) (high : past ≡ first_over 0 q (ids_of f) s) (most : past ≤ 65536) where
+    module _ (f : Position) (first lo past : ℕ) (e : f ≡ position_of (front_at p q k)) (over : first ≡ first_over 1 p (ids_of f) s) (low : lo ≡ max first 1) (high : past ≡ first_over 0 q (ids_of f) s) (most : past ≤ 65536) where
       found : room_at p q s k ≡ record { front = ids_of f; lo = lo; c = past - lo }
       found =
-          room_is p q s k lo past (ids_of f) (ap ids_of e ∙ position_ids (front_at p q k)) (low ∙ ap (max 1) over) high most
+          room_is p q s k lo past (ids_of f) (ap ids_of e ∙ position_ids (front_at p q k)) (omega arith) high most
 
       -- where front k has room, the place is in it
       ends : lo < past → (draw : ℕ) → place_of p q s draw ≡ some (followed_by (ids_of f) (x_of lo (past - lo) draw) s)
@@ -46,36 +42,30 @@ module _ (p q : List Identifier) where
       let over : 8 - k ≡ 0 = omega arith in
       place_none p q s draw (sym same ∙ ap (λ (n : ℕ). room_from p q s n k) over ∙ room_none p q s k)
 
-pub loop-k-init : goal.loop-k-init
-loop-k-init c = record { tried = omega arith; same_room = room_starts _ _ _ }
-
 pub first_over-requires : goal.first_over-requires
-first_over-requires c = (omega arith, fronted _ _ _ c.front_at-front.ensures (omega arith))
+first_over-requires c = fronted _ _ _ _ c.front_at-front.ensures (omega arith)
 
 pub first_over-past-requires : goal.first_over-past-requires
-first_over-past-requires c = (omega arith, fronted _ _ _ c.front_at-front.ensures (omega arith))
+first_over-past-requires c = fronted _ _ _ _ c.front_at-front.ensures (omega arith)
 
 pub followed_by-requires : goal.followed_by-requires
-followed_by-requires c = fronted _ _ _ c.front_at-front.ensures (omega arith)
+followed_by-requires c = fronted _ _ _ _ c.front_at-front.ensures (omega arith)
 
 pub returns-then-lo-past : goal.returns-then-lo-past
 returns-then-lo-past c =
     let here =
-    ends (ids_of c.args.p) (ids_of c.args.q) c.args.site c.loop-k.k (omega arith) c.loop-k.invariant.same_room
-    c.front_at-front.result _ _ _ c.front_at-front.ensures c.first_over.ensures.0 c.at_least_1-lo.ensures c.first_over-past.ensures.0 c.first_over-past.ensures.1
+    ends (ids_of c.args.p.now) (ids_of c.args.q.now) c.args.site c.loop-k.k (omega arith) c.loop-k.invariant
+    c.front_at-front.result _ _ _ c.front_at-front.ensures c.first_over.ensures.first c.max-lo.ensures c.first_over-past.ensures.first c.first_over-past.ensures.most
     c.if-lo-past.true c.args.draw in
     rw (here, c.followed_by.ensures, c.x_of-x.ensures)
 
 pub loop-k-preserved : goal.loop-k-preserved
-loop-k-preserved c = record {
-  tried = omega arith;
-  same_room =
-      goes_on (ids_of c.args.p) (ids_of c.args.q) c.args.site c.loop-k.k (omega arith) c.loop-k.invariant.same_room
-      c.front_at-front.result _ _ _ c.front_at-front.ensures c.first_over.ensures.0 c.at_least_1-lo.ensures c.first_over-past.ensures.0 c.first_over-past.ensures.1
-      c.if-lo-past.false;
-}
+loop-k-preserved c =
+    goes_on (ids_of c.args.p.now) (ids_of c.args.q.now) c.args.site c.loop-k.k (omega arith) c.loop-k.invariant
+    c.front_at-front.result _ _ _ c.front_at-front.ensures c.first_over.ensures.first c.max-lo.ensures c.first_over-past.ensures.first c.first_over-past.ensures.most
+    c.if-lo-past.false
 
 pub returns : goal.returns
 returns c =
-    let none_left = nowhere (ids_of c.args.p) (ids_of c.args.q) c.args.site c.loop-k.k (omega arith) c.loop-k.invariant.same_room c.args.draw in
-    rw (none_left, c.empty.ensures)
+    let none_left = nowhere (ids_of c.args.p.now) (ids_of c.args.q.now) c.args.site c.loop-k.k (omega arith) c.loop-k.invariant c.args.draw in
+    rw none_left

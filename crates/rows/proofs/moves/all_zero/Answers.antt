@@ -1,8 +1,7 @@
--- One byte more is looked at, and it is a fault unless it is zero.
-use Rattle.std.proofs.Common.{arith}
-use Rattle.rows.proofs.Turns.{more}
+-- The bytes are or-ed together.
+use Rattle.std.proofs.Common.{rules}
+use Rattle.rows.proofs.Turns.{all_clear}
 use Rattle.rows.proofs.moves.all_zero.Goals as goal
 
-pub loop-j-preserved : goal.loop-j-preserved
-loop-j-preserved c =
-    (omega arith, more c.loop-j.faults _ c.loop-j.j c.loop-j.invariant.1 ((λ h. h), (λ h. h)))
+pub returns : goal.returns
+returns c = all_clear c.args.s.now c.fold.result (search rules)

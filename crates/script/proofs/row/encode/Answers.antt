@@ -1,6 +1,7 @@
 -- The parts, written one behind the other over zeros, are the line's row.
 use Rattle.std.proofs.Common.{◌≡◌, ℕ, ◌≤◌, List, ◌++◌, length, refl, ap, ◌∙◌, rules, append_assoc, length-append, arith}
 use lib.ListN.{length-replicate}
+use Rattle.position.specs.declared.Identifier.{Identifier}
 use Rattle.position.specs.Positions.{ids_of}
 use Rattle.position.proofs.Ids.{ids_length}
 use Rattle.rows.specs.Numbers.{bytes_of}
@@ -56,13 +57,14 @@ pub returns : goal.returns
 returns c =
     let l : Line = record { position = ids_of c.args.place; number = c.args.number; text = c.args.text.now } in
     let few : length l.position ≤ 8 = omega (arith, ids_length c.args.place (search rules)) in
-    copied_written 30 48 l.text c.put_1-2.new.s c.copy_front.new.s (omega arith) (omega arith) c.copy_front.ensures
+    copied_written 30 48 l.text c.put-3.new.s c.copy_front.new.s (omega arith) (omega arith) c.copy_front.ensures
     ∙ ap (written 30 l.text)
-    (c.put_1-2.ensures
+    (c.put-3.ensures
     ∙ ap (written 29 (bytes_of 1 (length l.text)))
-    (c.put_4.ensures
+    (c.put-2.ensures
     ∙ ap (written 25 (bytes_of 4 l.number))
     (c.put_identifiers.ensures
+    ∙ ap (λ (ids : List Identifier). written 1 (flat encode_identifier ids) c.put.new.s) c.identifiers.ensures
     ∙ ap (written 1 (flat encode_identifier l.position))
-    (c.put_1.ensures ∙ ap (λ (n : ℕ). written 0 (bytes_of 1 n) (zeros 78)) c.length.ensures))))
+    (c.put.ensures ∙ ap (λ (n : ℕ). written 0 (bytes_of 1 n) (zeros 78)) c.length.ensures))))
     ∙ row_written 78 l refl few (omega arith)

@@ -22,17 +22,14 @@ loop-i-preserved c =
     let row = c.args.row.now in
     let at = c.loop-i in
     let site = get_or row (3 + 3 * at.i) 0 in
-    let id : identifier c.number_2.result site ≡ get_or (identifiers_of row) at.i pad =
-    ap (λ (x : ℕ). identifier x site) c.number_2.ensures ∙ sym (identifier_at row at.i (omega arith)) in
-    record {
-      inside = omega arith;
-      read = copied_more (identifiers_of row) (replicate 8 pad) at.i pad at.ids
-          (identifier c.number_2.result site) (omega (arith, identifiers_length row)) (omega arith) at.invariant.read id;
-    }
+    let id : identifier c.read.result site ≡ get_or (identifiers_of row) at.i pad =
+    ap (λ (x : ℕ). identifier x site) c.read.ensures ∙ sym (identifier_at row at.i (omega arith)) in
+    copied_more (identifiers_of row) (replicate 8 pad) at.i pad at.ids
+    (identifier c.read.result site) (omega (arith, identifiers_length row)) (omega arith) at.invariant id
 
 pub returns : goal.returns
 returns c =
     let row = c.args.row.now in
     let ids : c.loop-i.ids ≡ (position_of (identifiers_of row)).ids =
-    c.loop-i.invariant.read ∙ ids_all row c.loop-i.i (omega arith) in
+    c.loop-i.invariant ∙ ids_all row c.loop-i.i (omega arith) in
     λ d. record { used = sym (identifiers_length row) d; ids = ids d }

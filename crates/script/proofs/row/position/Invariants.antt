@@ -1,15 +1,8 @@
 -- The identifiers read so far, then pads.
-use Rattle.std.proofs.Common.{◌≡◌, ◌-◌, ◌≤◌, ◌++◌, take, drop, replicate}
+use Rattle.std.proofs.Common.{◌≡◌, ◌++◌, take, drop, replicate}
 use Rattle.position.specs.Positions.{pad}
 use Rattle.script.specs.Lines.{identifiers_of}
 use Rattle.script.proofs.row.position.Given as goal
 
 abbrev pub invariant-loop-i : goal.invariant-loop-i
-invariant-loop-i l = record {
-  inside : l.i ≤ l.used;
-  read : l.ids ≡ take l.i (identifiers_of l.row) ++ drop l.i (replicate 8 pad);
-}
-
--- how many are left
-abbrev pub decreases-loop-i : goal.decreases-loop-i
-decreases-loop-i l = l.used - l.i
+invariant-loop-i l = l.ids ≡ take l.i (identifiers_of l.row) ++ drop l.i (replicate 8 pad)

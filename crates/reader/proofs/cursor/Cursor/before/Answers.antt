@@ -1,38 +1,41 @@
 -- `before` meets its contract: its entries are read one behind the other, and their counts are put in.
 -- Assumes nothing.
-use Rattle.std.proofs.Common.{◌≡◌, ℕ, ◌-◌, List, [], ◌∷◌, ◌++◌, refl, sym, ap, ◌∙◌, arith}
+use Rattle.std.proofs.Common.{◌≡◌, ℕ, ◌-◌, List, [], ◌∷◌, ◌++◌, refl, sym, ◌∙◌, arith}
 use Rattle.std.proofs.Math.ListN.{set, replicate}
 use Rattle.format.specs.declared.Entry.{Entry}
 use Rattle.reader.specs.Read.{entered}
-use Rattle.reader.proofs.Composed.{passed}
-use Rattle.reader.proofs.Repeated.{first_turn, turn_more, turn_stops, turn_ends}
-use Rattle.reader.proofs.Counts.{entered_one, before_read}
+use Rattle.reader.proofs.Repeated.{first_turn, turn_more, section_none, section_stops, section_ends}
+use Rattle.reader.proofs.Counts.{entries, entered_one, before_told}
 use Rattle.reader.proofs.cursor.Cursor.before.Goals as goal
 
 -- one entry more
-one_entered : (counts : List ℕ) (e : Entry) (es : List Entry) → counts ≡ entered (replicate 16 0) es
-    → set counts (e.site - 1) e.count ≡ entered (replicate 16 0) (es ++ (e ∷ []))
-one_entered counts e es held =
-    ap (λ (counts : List ℕ). set counts (e.site - 1) e.count) held ∙ sym (entered_one (replicate 16 0) es e)
+one_entered : (counts : List ℕ) (site k : ℕ) (e : Entry) (es : List Entry) → site ≡ e.site → counts ≡ entered (replicate 16 0) es
+    → set counts (site - 1) e.count ≡ entered (replicate 16 0) (es ++ (e ∷ []))
+one_entered counts site k e es here held =
+    (λ d. set (held d) (here d - 1) e.count) ∙ sym (entered_one (replicate 16 0) es e)
 
-pub loop-i-init : goal.loop-i-init
+pub returns-in_err-entries : goal.returns-in_err-entries
+returns-in_err-entries c = rw c.from_residual.ensures (section_none entries (omega arith) before_told c.in_err-entries.ensures)
+
+pub loop-init : goal.loop-init
 unfolding entered
-loop-i-init c = (omega arith, omega arith, first_turn refl c.count-entries.ensures)
+loop-init c = record { below = omega arith; read = first_turn refl }
 
-pub returns-then-next : goal.returns-then-next
-returns-then-next c =
-    before_read c.count-entries.ensures
-    (turn_stops (omega arith) c.loop-i.invariant.2 c.entry-entry.ensures c.if-next.true)
+pub returns-in_err-entry : goal.returns-in_err-entry
+returns-in_err-entry c =
+    rw c.from_residual-in_err-entry.ensures
+    (section_stops entries (omega arith) before_told c.in_ok-entries.ensures c.loop.invariant.read c.loop-test.true c.in_err-entry.ensures)
 
 -- an entry that was read has its site above the last one, and at most 16
-pub loop-i-preserved : goal.loop-i-preserved
-loop-i-preserved c =
-    let above = (passed c.if-next.false c.entry-entry.ensures).fits in (
-      omega arith,
-      omega (arith, above.0.1),
-      turn_more (λ es _. one_entered c.loop-i.value c.entry-entry.result.value es)
-          c.loop-i.invariant.2 c.entry-entry.ensures c.if-next.false,
-    )
+pub loop-preserved : goal.loop-preserved
+loop-preserved c =
+    record {
+      below = c.in_ok-entry.ensures.fits.0.1;
+      read =
+          turn_more c.loop.invariant.read c.in_ok-entry.ensures
+          (λ es _. one_entered c.loop.value c.from.result 0 c.in_ok-entry.entry.value es c.from.ensures);
+    }
 
 pub returns : goal.returns
-returns c = before_read c.count-entries.ensures (turn_ends (omega arith) c.loop-i.invariant.2)
+returns c =
+    section_ends entries (omega arith) before_told c.in_ok-entries.ensures c.loop.invariant.read (omega arith) (λ es held. held)

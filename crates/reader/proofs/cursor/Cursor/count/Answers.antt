@@ -1,32 +1,21 @@
 -- `count` meets its contract: a byte is a number of one byte.
 -- Assumes nothing.
-use Rattle.std.proofs.Common.{◌≡◌, ℕ, List, get_or, drop, ◌∙◌, arith}
-use Rattle.rows.specs.Numbers.{num_at}
-use Rattle.rows.proofs.Answers.{no_answer}
-use Rattle.rows.proofs.Digits.{num_one}
-use Rattle.reader.proofs.Standing.{byte_field, number_front}
-use Rattle.reader.proofs.Composed.{field_there, field_halts}
+use Rattle.std.proofs.Common.{arith}
+use Rattle.std.proofs.lemmas.Grind.{common_steps}
+use Rattle.rows.specs.Numbers.{bytes_of}
+use Rattle.rows.proofs.Digits.{bytes_length}
+use Rattle.reader.specs.Steps.{Reads, Within}
+use Rattle.reader.proofs.Composed.{too_short, byte_found, byte_unfit, handed}
 use Rattle.reader.proofs.cursor.Cursor.count.Goals as goal
-use Rattle.reader.proofs.cursor.Cursor.count.Goals.{then-has+then-least-value+else-value-most, then-has+else-least-value, else-has}
 
--- the byte that is read
-front : (at : ℕ) (s : List ℕ) → num_at 1 (drop at s) 0 ≡ get_or s at 0
-front at s = number_front 1 at s ∙ num_one at s
-
-pub returns-then-value-most : goal.returns-then-value-most
-returns-then-value-most c =
-    let a = c.args in
-    field_there (byte_field a.least a.most (omega arith)) a.s.now (λ i. (c.type_inv.s i).fits) a.self (get_or a.s.now a.self.at 0)
-    (c.has.ensures.0 c.if-has.true) (front a.self.at a.s.now) (c.if-least-value.true, c.if-value-most.true)
+pub returns-in_err-value : goal.returns-in_err-value
+returns-in_err-value c =
+    rw c.from_residual.ensures (too_short 1 (λ v _. bytes_length 1 v) (omega (arith, c.in_err-value.ensures.cases)))
 
 pub returns : goal.returns
 returns c =
     let a = c.args in
-    let read = front a.self.at a.s.now in
-    field_halts (byte_field a.least a.most (omega arith)) a.s.now (λ i. (c.type_inv.s i).fits) a.self 0 c.halted.result c.halted.ensures
-    (λ here fits.
-    elim c.if-has.branch [
-      | then-has+then-least-value+else-value-most w ↦ absurd (omega (arith, fits.1, read, w.if-value-most.false))
-      | then-has+else-least-value w ↦ absurd (omega (arith, fits.0, read, w.if-least-value.false))
-      | else-has w ↦ no_answer c.has.result w.if-has.false (c.has.ensures.1 here)
-    ])
+    let here = c.in_ok-value.ensures.cases.0 in
+    handed (Reads (bytes_of 1) (Within a.least a.most) a.self.rest.now) c.contains.result c.then_some.ensures
+    (λ good. byte_found here a.least a.most (omega arith) (grind (arith, common_steps), grind (arith, common_steps)))
+    (λ wrong. byte_unfit here a.least a.most (omega arith) (λ fits. grind (arith, common_steps)))

@@ -1,38 +1,23 @@
--- `identifier` meets its contract: integer and site are the field's two parts.
+-- `identifier` meets its contract: three bytes are tested.
 -- Assumes nothing.
-use Rattle.std.proofs.Common.{◌≡◌, ℕ, ◌+◌, List, get_or, drop, sym, subst, ◌∙◌}
-use Rattle.std.proofs.Math.Seq.{get_or-drop}
-use Rattle.position.specs.Positions.{identifier, pad, Proper}
-use Rattle.rows.specs.Numbers.{num_at}
+use Rattle.std.proofs.Common.{◌∙◌, arith}
+use Rattle.position.specs.Positions.{Proper}
 use Rattle.rows.proofs.Answers.{no_answer}
-use Rattle.script.specs.Lines.{decode_identifier}
-use Rattle.reader.proofs.Standing.{identifier_field, number_front}
-use Rattle.reader.proofs.Composed.{field_there, field_halts}
+use Rattle.script.specs.Lines.{encode_identifier}
+use Rattle.reader.specs.Steps.{Reads}
+use Rattle.reader.proofs.Codes.{identifier_field}
+use Rattle.reader.proofs.Composed.{too_short, unfit, cut, handed}
 use Rattle.reader.proofs.cursor.Cursor.identifier.Goals as goal
-use Rattle.reader.proofs.cursor.Cursor.identifier.Goals.{then-has+else-identifier_fits, else-has}
 
--- the identifier that is read
-front : (at : ℕ) (s : List ℕ) (integer : ℕ) → integer ≡ num_at 2 s at
-    → decode_identifier (drop at s) ≡ identifier integer (get_or s (at + 2) 0)
-unfolding decode_identifier
-front at s integer e = λ d. record { integer = (number_front 2 at s ∙ sym e) d; site = get_or-drop at s 2 0 d }
-
-pub returns-then-identifier_fits : goal.returns-then-identifier_fits
-returns-then-identifier_fits c =
-    let a = c.args in
-    let integer = c.number_2.result in
-    field_there identifier_field a.s.now (λ i. (c.type_inv.s i).fits) a.self (identifier integer (get_or a.s.now (a.self.at + 2) 0))
-    (c.has.ensures.0 c.if-has.true) (front a.self.at a.s.now integer c.number_2.ensures)
-    (c.identifier_fits.ensures.0 c.if-identifier_fits.true)
+pub returns-in_err-bytes : goal.returns-in_err-bytes
+returns-in_err-bytes c =
+    rw c.from_residual.ensures (too_short 3 (λ v _. identifier_field.width v) (omega (arith, c.in_err-bytes.ensures.cases)))
 
 pub returns : goal.returns
 returns c =
-    let a = c.args in
-    field_halts identifier_field a.s.now (λ i. (c.type_inv.s i).fits) a.self pad c.halted.result c.halted.ensures
-    (λ here fits.
-    elim c.if-has.branch [
-      | then-has+else-identifier_fits w ↦
-          let read = front a.self.at a.s.now w.number_2.result w.number_2.ensures in
-          no_answer w.identifier_fits.result w.if-identifier_fits.false (w.identifier_fits.ensures.1 (subst Proper read fits))
-      | else-has w ↦ no_answer c.has.result w.if-has.false (c.has.ensures.1 here)
-    ])
+    let s = c.args.self.rest.now in
+    let split = c.in_ok-bytes.ensures.cases in
+    let value = c.identifier_in-value.ensures in
+    handed (Reads encode_identifier Proper s) c.identifier_fits.result c.then_some.ensures
+    (λ good. record { fits = c.identifier_fits.ensures.0 good; bytes = cut 3 s (value.bytes ∙ split.1) split.2 })
+    (λ wrong. unfit identifier_field split.1 value.value (λ fits. no_answer c.identifier_fits.result wrong (c.identifier_fits.ensures.1 fits)))

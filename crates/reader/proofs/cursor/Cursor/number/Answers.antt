@@ -1,28 +1,23 @@
--- `number` meets its contract: a number of four bytes.
+-- `number` meets its contract: four bytes are tested.
 -- Assumes nothing.
-use Rattle.std.proofs.Common.{sym, subst, ◌∙◌}
+use Rattle.std.proofs.Common.{◌∙◌, arith}
+use Rattle.rows.specs.Numbers.{bytes_of}
 use Rattle.rows.proofs.Answers.{no_answer}
 use Rattle.format.specs.WellFormed.{NumberFits}
-use Rattle.reader.proofs.Standing.{count_field, number_front}
-use Rattle.reader.proofs.Composed.{field_there, field_halts}
+use Rattle.reader.specs.Steps.{Reads}
+use Rattle.reader.proofs.Codes.{count_field}
+use Rattle.reader.proofs.Composed.{too_short, unfit, cut, handed}
 use Rattle.reader.proofs.cursor.Cursor.number.Goals as goal
-use Rattle.reader.proofs.cursor.Cursor.number.Goals.{then-has+else-number_fits, else-has}
 
-pub returns-then-number_fits : goal.returns-then-number_fits
-returns-then-number_fits c =
-    let a = c.args in
-    let value = c.number_4-value.result in
-    field_there count_field a.s.now (λ i. (c.type_inv.s i).fits) a.self value (c.has.ensures.0 c.if-has.true)
-    (number_front 4 a.self.at a.s.now ∙ sym c.number_4-value.ensures) (c.number_fits.ensures.0 c.if-number_fits.true)
+pub returns-in_err-bytes : goal.returns-in_err-bytes
+returns-in_err-bytes c =
+    rw c.from_residual.ensures (too_short 4 (λ v _. count_field.width v) (omega (arith, c.in_err-bytes.ensures.cases)))
 
 pub returns : goal.returns
 returns c =
-    let a = c.args in
-    field_halts count_field a.s.now (λ i. (c.type_inv.s i).fits) a.self 0 c.halted.result c.halted.ensures
-    (λ here fits.
-    elim c.if-has.branch [
-      | then-has+else-number_fits w ↦
-          let read = number_front 4 a.self.at a.s.now ∙ sym w.number_4-value.ensures in
-          no_answer w.number_fits.result w.if-number_fits.false (w.number_fits.ensures.1 (subst NumberFits read fits))
-      | else-has w ↦ no_answer c.has.result w.if-has.false (c.has.ensures.1 here)
-    ])
+    let s = c.args.self.rest.now in
+    let split = c.in_ok-bytes.ensures.cases in
+    let value = c.number_in-value.ensures in
+    handed (Reads (bytes_of 4) NumberFits s) c.number_fits.result c.then_some.ensures
+    (λ good. record { fits = c.number_fits.ensures.0 good; bytes = cut 4 s (value.bytes ∙ split.1) split.2 })
+    (λ wrong. unfit count_field split.1 value.value (λ fits. no_answer c.number_fits.result wrong (c.number_fits.ensures.1 fits)))

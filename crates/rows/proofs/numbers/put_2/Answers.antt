@@ -1,7 +1,0 @@
--- The stores are the number's bytes, one by one.
-use Rattle.std.proofs.Common.{add-zero}
-use Rattle.rows.proofs.Bytes.{stored_written}
-use Rattle.rows.proofs.numbers.put_2.Goals as goal
-
-pub returns : goal.returns
-returns c = simp add-zero at (stored_written 2 c.args.at c.args.v c.args.s.now c.requires)
