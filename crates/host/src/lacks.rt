@@ -17,8 +17,8 @@ pub fn write_lacks(sites: [Option<Missing>; SITES], res: &mut [u8])
     requires { length res.old ≡ lacks_size }
     ensures { res.new ≡ flat lack_bytes (map lack_given sites) }
 {
-    for i in 0..SITES {
-        put_lack(sites[i], res, i * LACK);
+    for (i, lack) in sites.iter().enumerate() {
+        put_lack(*lack, res, i * LACK);
     }
 }
 

@@ -2,11 +2,11 @@
 // these with numbers and byte slices"). `host_c` exports them for the archive that it links;
 // include/script_replica.h declares these functions and says what each promises.
 //
-// Rests on `lent` for the operations over a lent record and on `replica` for comparing, on `record` for its 67 bytes and
-// on `reader` for the first patch of a run. Start, insert, delete and receive read the record, make the operation's call and write the
-// record back; reading a row's text only reads it; the other two calls have none. Each takes any bytes, of
-// any length, and any numbers. What a call gives is the operation's own definition
-// (its crate's specs/), said of bytes in specs/Calls.antt. A slice is a pointer and then a length for C.
+// Rests on `lent` for the operations over a lent record and on `replica` for comparing, on `record` for its 67
+// bytes and on `reader` for the first patch of a run. Start, insert, delete and receive read the record, make the
+// operation's call and write the record back; reading a row's text only reads it; the other two calls have none.
+// Each takes any bytes, of any length, and any numbers. What a call gives is the operation's own definition (its
+// crate's specs/), said of bytes in specs/Calls.antt. A slice is a pointer and then a length for C.
 //
 // A record's bytes are called `state` here: `record` is a word of the proof language.
 #![tactic(auto)]

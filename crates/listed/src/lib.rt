@@ -17,7 +17,7 @@ ghost use Rattle.listed.specs.Output.{behind};
 ghost use Rattle.listed.specs.Listing.{most_input, listing};
 ghost use Rattle.listed.specs.Steps.{Feeds};
 
-use format::answers::{Refusal, number};
+use format::answers::Refusal;
 use lent::{receive, start};
 use output::Output;
 use patches::Patches;
@@ -34,7 +34,7 @@ pub const LONGEST: usize = 131_072;
 const SITE: u32 = 16;
 
 // Lists the patches of an input and the rows that they leave: puts what is written at the front of `out`,
-// as much as there is room for, and gives its length.
+// as much as there is room for, and gives its length: memory is fixed, and the buffer is the caller's.
 pub fn list(input: &[u8], out: &mut [u8]) -> usize
     ensures { record { length = result; bytes = out.new } ≡ behind (listing input.now) (record { length = 0; bytes = out.old }) }
 {
@@ -57,8 +57,8 @@ pub fn list(input: &[u8], out: &mut [u8]) -> usize
 
 // Feeds the patches of an input to a fresh replica, up to the first that is malformed, and puts out a line
 // for each.
-fn feed(input: &[u8], table: &mut [u8], out: &mut Output) -> Replica
-    requires { (length input.now ≤ most_input) × (length table.old ≡ table_size) }
+fn feed(input: &[u8], table: &mut [u8; TABLE], out: &mut Output) -> Replica
+    requires { length input.now ≤ most_input }
     ensures { Feeds input.now result table.new out.old out.new }
 {
     let mut replica = Replica::default();
@@ -66,7 +66,7 @@ fn feed(input: &[u8], table: &mut [u8], out: &mut Output) -> Replica
     start(&mut replica, table, SITE).unwrap();
     for (k, patch) in Patches(input).enumerate() {
         let answer = receive(&mut replica, table, patch);
-        out.patch_line(k + 1, number(answer));
+        out.patch_line(k + 1, answer);
         if answer == Err(Refusal::Malformed) {
             break;
         }

@@ -1,18 +1,21 @@
 // The lines of a listing: that of a patch, and those of the rows.
 ghost use Rattle.position.specs.Positions.{ids_of};
 ghost use Rattle.script.specs.Lines.{decode_table};
+ghost use Rattle.format.specs.Answers.{answer_number};
 ghost use Rattle.listed.specs.Steps.{Puts};
 ghost use Rattle.listed.specs.Text.{identifier_text, position_text, patch_line, row_line, rows_text};
 
 use crate::output::Output;
+use format::answers::{Refusal, Success, number};
 use position::{Identifier, Position};
 use script::{ROW, Script, row, table};
 
 impl Output<'_> {
     // Puts in the line of a patch: its place in the input, and the number of its answer.
-    pub fn patch_line(&mut self, place: usize, answer: u32)
-        ensures { Puts (patch_line place answer) self.old self.new }
+    pub fn patch_line(&mut self, place: usize, answer: Result<Success, Refusal>)
+        ensures { Puts (patch_line place (answer_number answer)) self.old self.new }
     {
+        let answer = number(answer);
         self.number(place);
         self.put(b" ");
         self.number(answer as usize);
@@ -53,7 +56,7 @@ impl Output<'_> {
         self.put(b"\n");
     }
 
-    // Puts in a position: its identifiers, joined by commas. No `Display`, as of a number.
+    // Puts in a position: its identifiers, joined by commas. No `Display`, for the reason given at `number`.
     fn position_text(&mut self, p: &Position)
         ensures { Puts (position_text (ids_of p.now)) self.old self.new }
     {
@@ -65,7 +68,7 @@ impl Output<'_> {
         }
     }
 
-    // Puts in an identifier, as integer.site. No `Display` either.
+    // Puts in an identifier, as integer.site. No `Display`, for the same reason.
     fn identifier_text(&mut self, id: Identifier)
         ensures { Puts (identifier_text id) self.old self.new }
     {

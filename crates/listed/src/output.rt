@@ -4,7 +4,7 @@ ghost use Rattle.listed.specs.Text.{decimal};
 
 use rows::moves::copy_front;
 
-// The lent buffer, and how many bytes have been put in.
+// The lent buffer, and how many bytes have been put in: memory is fixed, so a length stands beside the buffer.
 #[derive(Drop)]
 pub struct Output<'a> {
     pub bytes: &'a mut [u8],
@@ -23,7 +23,8 @@ impl Output<'_> {
     }
 
     // Puts in a number, in decimal: its last digit behind those of a tenth of it, which the call on the tenth
-    // puts in. No `Display`: bytes go into the lent buffer, as many as there is room for.
+    // puts in. No `Display`: the texts of rows are any bytes, so `put` stays, and a `fmt::Write` beside it would be a
+    // second way in.
     pub fn number(&mut self, n: usize)
         ensures { Puts (decimal n) self.old self.new }
     {

@@ -1,7 +1,8 @@
 // What the cases are written in: bytes in capital hexadecimal.
 ghost use Rattle.std.specs.Prelude.{◌≡◌, ◌≤◌, ◌/◌, length, take, min};
 
-// The bytes that two digits each stand for, as many as there is room for.
+// The bytes that two digits each stand for, as many as there is room for. Memory is fixed, so their number stands
+// beside the buffer.
 pub fn from_hex(digits: &[u8], bytes: &mut [u8]) -> usize
     ensures inside { (result ≤ length bytes.new) × (result ≡ length (take result bytes.new)) }
     ensures count { result ≡ min (length bytes.new) (length digits.now / 2) }

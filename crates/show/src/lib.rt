@@ -44,7 +44,8 @@ impl fmt::Display for Counts<'_> {
 }
 
 // Fills a buffer from the front, up to the end of the input, and gives how many bytes were read. The loop
-// counts by hand, since std's `read_to_end` needs the heap and `read_exact` refuses an input that ends early.
+// counts by hand, since std's `read_to_end` needs the heap and `read_exact` refuses an input that ends early. Memory
+// is fixed, so a length stands beside the buffer.
 pub fn read_full<R: Read>(input: &mut R, buffer: &mut [u8]) -> io::Result<usize>
     ensures { IfOk result (λ n. n ≤ length buffer.new) }
 {

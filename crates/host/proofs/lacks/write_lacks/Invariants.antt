@@ -8,5 +8,5 @@ use Rattle.host.proofs.lacks.write_lacks.Given as goal
 abbrev pub invariant-loop-i : goal.invariant-loop-i
 invariant-loop-i l = record {
   long : length l.res ≡ lacks_size;
-  wrote : l.res ≡ written 0 (flat lack_bytes (take l.i (map lack_given l.sites))) l.fn.res;
+  wrote : l.res ≡ written 0 (flat lack_bytes (take l.i (map lack_given l.fn.sites))) l.fn.res;
 }
