@@ -6,7 +6,7 @@
 // specs/Effect.antt, said of the counts and the lines; that it keeps a replica sound is proofs/Keeps.antt.
 #![tactic(auto)]
 
-ghost use Rattle.std.specs.Prelude.{◌≡◌, true, ◌≤◌, ◌<◌};
+ghost use Rattle.std.specs.Prelude.{◌≡◌, true, ◌<◌};
 ghost use Rattle.record.specs.Records.{count_of};
 ghost use Rattle.script.specs.Lines.{decode_table};
 ghost use Rattle.script.specs.Sound.{Sound};

@@ -45,15 +45,17 @@ compare_call first second =
     first_of (compare_checks first second) (λ n. record { answer = n; sites = replicate 16 no_lack })
     (record { answer = 0; sites = zip_with lack_of first second })
 
--- what comparing came to, in 01's numbers: refused, "zeros only"
+-- "which side has more (0 none, 1 first, 2 second)": the number of a side that has more
 abbrev pub side_number : Side → ℕ
 side_number First = 1
 side_number Second = 2
 
+-- a site at which one side lacks something, in 01's numbers; none, "two zeros where equal"
 abbrev pub lack_given : Option Missing → Lack
 lack_given None = no_lack
 lack_given (Some m) = record { more = side_number m.more; first = m.first; last = m.last }
 
+-- what comparing came to: refused, "giving zeros only"
 abbrev pub compared : Result (List (Option Missing)) Refusal → Compared
 compared (Ok sites) = record { answer = 0; sites = map lack_given sites }
 compared (Err why) = record { answer = refusal_number why; sites = replicate 16 no_lack }

@@ -9,7 +9,7 @@ ghost use Rattle.std.specs.Prelude.{◌≡◌, ◌+◌, ◌≤◌, length};
 ghost use Rattle.position.specs.Positions.{ids_of};
 ghost use Rattle.format.specs.Answers.{done_number, length_given};
 ghost use Rattle.format.specs.Kinds.{kind_byte};
-ghost use Rattle.format.specs.Patches.{head_size, before_most, place_most, line_most, most_size, kind_of, head_bytes, before_bytes, place_bytes, line_bytes, patch_bytes};
+ghost use Rattle.format.specs.Patches.{head_size, before_most, place_most, line_most, most_size, head_bytes, before_bytes, place_bytes, line_bytes, patch_bytes};
 ghost use Rattle.format.specs.WellFormed.{LineFits, WellFormed};
 ghost use Rattle.writer.specs.Put.{Put};
 ghost use Rattle.writer.specs.Write.{write_patch};
