@@ -132,17 +132,18 @@ by_rest [] q d h k e = absurd (omega arith)
 by_rest (i ∷ p) [] d h k e = absurd (omega arith)
 by_rest (i ∷ p) (j ∷ q) d h k e = rw (take_rest (i ∷ p) 1, take_rest (j ∷ q) 1, ← e) refl
 
+-- an answer that is not `Equal` decides, whatever the rest says
+pub decided : (first rest : Ordering) → (first ≡ Equal → ⊥) → first ≡ then_by first rest
+decided Less rest n = refl
+decided Equal rest n = absurd (n refl)
+decided Greater rest n = refl
+
 pub by_first : (p q : List Identifier) (d : Identifier) (o : Ordering) → 1 ≤ length p → 1 ≤ length q → o ≡ identifier_order (get_or p 0 d) (get_or q 0 d) → (o ≡ Equal → ⊥)
     → o ≡ order_of p q
 unfolding order_of
 by_first [] q d o h k e n = absurd (omega arith)
 by_first (i ∷ p) [] d o h k e n = absurd (omega arith)
-by_first (i ∷ p) (j ∷ q) d o h k e n = rw (← e) (by o n)
-  where
-    by : (o : Ordering) → (o ≡ Equal → ⊥) → o ≡ then_by o (order_of p q)
-    by Less n = refl
-    by Equal n = absurd (n refl)
-    by Greater n = refl
+by_first (i ∷ p) (j ∷ q) d o h k e n = rw (← e) (decided o (order_of p q) n)
 
 pub ruleset steps = (both_out, first_out, second_out, by_rest, by_first, ltb-false)
 

@@ -33,18 +33,22 @@ pub fn read_first(s: &[u8]) -> Option<Reading>
     let before = head.next.before()?;
     let place = before.next.place()?;
     let line = place.next.line(head.value.kind)?;
-    let patch = Patch {
-        author: head.value.author,
-        number: head.value.number,
-        before: before.value,
-        place: place.value,
-        edit: line.value.edit,
-    };
-    agrees(patch).then_some(Reading {
-        patch,
+    let reading = Reading {
+        patch: Patch {
+            author: head.value.author,
+            number: head.value.number,
+            before: before.value,
+            place: place.value,
+            edit: line.value.edit,
+        },
         text: line.value.text,
         used: s.len() - line.next.rest.len(),
-    })
+    };
+    // a test, and no `then_some`: that took the whole reading by value, and copied it twice more
+    if !agrees(reading.patch) {
+        return None;
+    }
+    Some(reading)
 }
 
 // Reads exactly one patch: a byte left over is malformed.

@@ -4,7 +4,6 @@
 use Rattle.std.proofs.Common.{◌≡◌}
 use Rattle.rows.proofs.Answers.{no_answer}
 use Rattle.reader.specs.Read.{read_first, taken}
-use Rattle.reader.proofs.Composed.{handed}
 use Rattle.reader.proofs.Whole.{none_taken, without_head, without_before, without_place, without_line, agreed, disagreed}
 use Rattle.reader.proofs.read_first.Goals as goal
 
@@ -28,11 +27,12 @@ returns-in_err-line c =
     (none_taken
     (without_line (rw c.start.ensures at c.in_ok-head.ensures) c.in_ok-before.ensures c.in_ok-place.ensures c.in_err-line.ensures))
 
+pub returns-then-not-agrees : goal.returns-then-not-agrees
+returns-then-not-agrees c =
+    disagreed (rw c.start.ensures at c.in_ok-head.ensures) c.in_ok-before.ensures c.in_ok-place.ensures c.in_ok-line.ensures
+    (λ agrees. no_answer c.agrees.result c.if-not-agrees.true (c.agrees.ensures.1 agrees))
+
 pub returns : goal.returns
 returns c =
-    let head = rw c.start.ensures at c.in_ok-head.ensures in
-    handed (λ r. r ≡ taken (read_first c.args.s.now)) c.agrees.result c.then_some.ensures
-    (λ good. agreed head c.in_ok-before.ensures c.in_ok-place.ensures c.in_ok-line.ensures (c.agrees.ensures.0 good))
-    (λ wrong.
-    disagreed head c.in_ok-before.ensures c.in_ok-place.ensures c.in_ok-line.ensures
-    (λ agrees. no_answer c.agrees.result wrong (c.agrees.ensures.1 agrees)))
+    agreed (rw c.start.ensures at c.in_ok-head.ensures) c.in_ok-before.ensures c.in_ok-place.ensures c.in_ok-line.ensures
+    (c.agrees.ensures.0 c.if-not-agrees.false)
