@@ -7,7 +7,8 @@
 // document's order, the answer, and all that it leaves. A refusal leaves all as it was. That another
 // replica which receives the patch is left with the same rests on `replica` (proofs/OwnDone.antt).
 //
-// The record comes in by value and comes back in the result; `lent` has the operations over a lent one.
+// The record comes in by value, and comes back where a call that changes it is done; `lent` has the operations over a
+// lent one.
 #![tactic(auto)]
 
 use record::Replica;

@@ -92,8 +92,8 @@ fn text_fits(length: usize, text: &[u8; TEXT]) -> bool
 }
 
 // The fields against each other: the author's own entry in Before is its number less 1, the first
-// integer leaves room below the end, and the last site of the place is the one that the edit asks for. Inlined: a call
-// copies the patch, which its callers hold field by field.
+// integer leaves room below the end, and the last site of the place is the one that the edit asks for. Inlined, since
+// a call copies the whole patch.
 #[inline(always)]
 #[tactic(auto, using(crate::proofs::Places::used_proper))]
 pub fn agrees(p: Patch) -> bool

@@ -33,22 +33,22 @@ pub fn read_first(s: &[u8]) -> Option<Reading>
     let before = head.next.before()?;
     let place = before.next.place()?;
     let line = place.next.line(head.value.kind)?;
-    let reading = Reading {
-        patch: Patch {
-            author: head.value.author,
-            number: head.value.number,
-            before: before.value,
-            place: place.value,
-            edit: line.value.edit,
-        },
-        text: line.value.text,
-        used: s.len() - line.next.rest.len(),
+    let patch = Patch {
+        author: head.value.author,
+        number: head.value.number,
+        before: before.value,
+        place: place.value,
+        edit: line.value.edit,
     };
-    // a test, and no `then_some`: that took the whole reading by value, and copied it twice more
-    if !agrees(reading.patch) {
+    // no `then_some`, which takes the reading by value and copies it
+    if !agrees(patch) {
         return None;
     }
-    Some(reading)
+    Some(Reading {
+        patch,
+        text: line.value.text,
+        used: s.len() - line.next.rest.len(),
+    })
 }
 
 // Reads exactly one patch: a byte left over is malformed.

@@ -7,7 +7,8 @@
 // numbers whatever; for each, one definition in specs/ gives its checks in the document's order, the
 // answer, and all that it leaves. A refusal leaves all as it was.
 //
-// The record comes in by value and comes back in the result; `lent` has the operations over a lent one.
+// The record comes in by value, and comes back where a call that changes it is done; `lent` has the operations over a
+// lent one.
 #![tactic(auto)]
 
 pub mod compare;

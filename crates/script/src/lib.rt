@@ -22,7 +22,7 @@ pub const ROW: usize = 78;
 pub const TABLE: usize = ROWS * ROW;
 
 // Record and table, which are sound together: whoever makes this value has tested them, and what takes it asks
-// nothing more.
+// nothing more of the two.
 #[derive(Clone, Copy)]
 pub struct Script<'a> {
     pub replica: Replica,
